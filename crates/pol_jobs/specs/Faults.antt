@@ -42,6 +42,11 @@ abbrev pub JobFailedSo : {Reason Failure : Type 0} → Type 0 → JobFault Reaso
 JobFailedSo So (Failed failure) = So
 JobFailedSo So _ = ⊤
 
+-- where the job refused its input for a reason, this is so
+abbrev pub JobRefusedSo : {Reason Failure : Type 0} → (Reason → Type 0) → JobFault Reason Failure → Type 0
+JobRefusedSo So (Refused reason) = So reason
+JobRefusedSo So _ = ⊤
+
 -- a fault of settling lines and writing the replies to them; where the job failed, this is so
 abbrev pub IsOfPutting : {Reason Failure : Type 0} → Type 0 → JobFault Reason Failure → Type 0
 IsOfPutting So Write = ⊤

@@ -4,11 +4,11 @@ ghost use Rattle.pol_io.specs.Causes.{HasCauseOf};
 ghost use Rattle.pol_io.specs.Faults.{Stops};
 ghost use Rattle.pol_io.specs.Known.{Between};
 ghost use Rattle.pol_io.specs.LinesState.{ahead, needs_no_source};
-ghost use Rattle.pol_jobs.specs.Deeds.{DidAll, DidSome};
+ghost use Rattle.pol_jobs.specs.Deeds.{DidAll, DidSome, RefusesBehind};
 ghost use Rattle.pol_jobs.specs.Ends.{Completes, Ends, IsTooMuch, Writes, edge};
-ghost use Rattle.pol_jobs.specs.Faults.{FailedSo, IsOfPutting, JobFailedSo};
+ghost use Rattle.pol_jobs.specs.Faults.{FailedSo, IsOfPutting, JobFailedSo, JobRefusedSo};
 ghost use Rattle.pol_jobs.specs.LineWork.{AcceptsEnd, KnowsAfter, output_by};
-ghost use Rattle.pol_jobs.specs.Moments.{moment, IsFresh, IsNext, Leaves, Replied};
+ghost use Rattle.pol_jobs.specs.Moments.{moment, HasReplied, IsFresh, IsNext, Leaves, Replied};
 ghost use Rattle.pol_jobs.specs.Settling.{Puts, PutsBefore, PutsDue, PutsPart};
 
 use crate::fault::JobFault;
@@ -137,6 +137,8 @@ fn reply_to_all<S: Source, K: Sink, J: LineJob>(
     ensures replied { OnOk result (Between
         (Replied J.work (J.state job.old) (J.state job.new) (K.held sink.old) (K.held sink.new))
         (S.left source.old) (S.left source.new)) }
+    ensures replied_lines { OnOk result (HasReplied J.work (J.state job.old) (J.state job.new)
+        (K.held sink.old) (K.held sink.new) []) }
     ensures leaves { IfErr result (λ fault. Between
         (Leaves (output_by J.work (J.state job.old)) (K.held sink.old) (K.held sink.new) fault)
         (S.left source.old) (S.left source.new)) }
@@ -147,6 +149,8 @@ fn reply_to_all<S: Source, K: Sink, J: LineJob>(
     ensures read_cause { HasCauseOf JobFault.Read (S.faults source.old) (S.faults source.new) result }
     ensures write_cause { HasCauseOf JobFault.Write (K.faults sink.old) (K.faults sink.new) result }
     ensures failed { IfErr result (JobFailedSo (J.HasFailed job.new)) }
+    ensures refused { IfErr result (JobRefusedSo (RefusesBehind J.work (J.state job.old)
+        (K.held sink.old) (K.held sink.new))) }
 {
     let mut out = Vec::new(alloc);
     let mut replies = Vec::new(alloc);
@@ -186,6 +190,8 @@ fn reply_and_close<S: Source, K: Sink, J: LineJob>(
     ensures read_cause { HasCauseOf JobFault.Read (S.faults source.old) (S.faults source.new) result }
     ensures write_cause { HasCauseOf JobFault.Write (K.faults sink.old) (K.faults sink.new) result }
     ensures failed { IfErr result (JobFailedSo (J.HasFailed job.new)) }
+    ensures refused { IfErr result (JobRefusedSo (RefusesBehind J.work (J.state job.old)
+        (K.held sink.old) (K.held sink.new))) }
 {
     let mut lines = Lines::new(alloc)?;
     reply_to_all(alloc, &mut lines, job, source, sink)?;
@@ -219,6 +225,8 @@ pub fn work<S: Source, K: Sink, J: LineJob>(
     ensures did_some { OnErr result (DidSome J.work (J.state job.old) (J.Did job.old job.new)
         (K.held sink.old) (K.held sink.new) (S.left source.old)) }
     ensures failed { IfErr result (JobFailedSo (J.HasFailed job.new)) }
+    ensures refused { IfErr result (JobRefusedSo (RefusesBehind J.work (J.state job.old)
+        (K.held sink.old) (K.held sink.new))) }
 {
     reply_and_close(alloc, job, source, sink)
 }
