@@ -27,7 +27,7 @@ fn noted(calls: u64, call: u64) -> u64 {
 }
 
 // What each job of these tests replies to a line: the line itself. It finds no memory at the line `!`.
-fn echo(line: InputLine<'_>, out: &mut Vec<u8>) -> Result<(), Stop<Infallible>>
+fn echo(line: InputLine<'_>, out: &mut Vec<u8>) -> Result<(), Stop<Infallible, Infallible>>
     ensures echoed { OnOk result (out.new.items ≡ out.old.items ++ unwrap_or (plain_line line.entry) []) }
     ensures cause { IfErr result (λ stop. stop ≡ Stop.Memory) }
 {
@@ -49,6 +49,8 @@ struct Together {
 impl LineJob for Together {
     type Refusal = Infallible;
 
+    type Failure = Infallible;
+
     const SETTLES_EACH: bool = false;
 
     const HANDS_ON_EACH: bool = false;
@@ -69,17 +71,23 @@ impl LineJob for Together {
 
     ghost did_nothing = { λ _. tt };
 
-    fn reply(&mut self, line: InputLine<'_>, out: &mut Vec<u8>) -> Result<(), Stop<Infallible>> {
+    ghost HasFailed = { λ _. ⊤ };
+
+    fn reply(
+        &mut self,
+        line: InputLine<'_>,
+        out: &mut Vec<u8>,
+    ) -> Result<(), Stop<Infallible, Infallible>> {
         self.calls = noted(self.calls, MET);
         echo(line, out)
     }
 
-    fn settle(&mut self) -> Result<(), AllocError> {
+    fn settle(&mut self) -> Result<(), Infallible> {
         self.calls = noted(self.calls, SETTLED);
         Ok(())
     }
 
-    fn end(&mut self) -> Result<(), Stop<Infallible>> {
+    fn end(&mut self) -> Result<(), Stop<Infallible, Infallible>> {
         Ok(())
     }
 
@@ -96,6 +104,8 @@ struct Settling {
 
 impl LineJob for Settling {
     type Refusal = Infallible;
+
+    type Failure = Infallible;
 
     const SETTLES_EACH: bool = true;
 
@@ -117,17 +127,23 @@ impl LineJob for Settling {
 
     ghost did_nothing = { λ _. tt };
 
-    fn reply(&mut self, line: InputLine<'_>, out: &mut Vec<u8>) -> Result<(), Stop<Infallible>> {
+    ghost HasFailed = { λ _. ⊤ };
+
+    fn reply(
+        &mut self,
+        line: InputLine<'_>,
+        out: &mut Vec<u8>,
+    ) -> Result<(), Stop<Infallible, Infallible>> {
         self.calls = noted(self.calls, MET);
         echo(line, out)
     }
 
-    fn settle(&mut self) -> Result<(), AllocError> {
+    fn settle(&mut self) -> Result<(), Infallible> {
         self.calls = noted(self.calls, SETTLED);
         Ok(())
     }
 
-    fn end(&mut self) -> Result<(), Stop<Infallible>> {
+    fn end(&mut self) -> Result<(), Stop<Infallible, Infallible>> {
         Ok(())
     }
 
@@ -144,6 +160,8 @@ struct AtOnce {
 
 impl LineJob for AtOnce {
     type Refusal = Infallible;
+
+    type Failure = Infallible;
 
     const SETTLES_EACH: bool = true;
 
@@ -165,17 +183,23 @@ impl LineJob for AtOnce {
 
     ghost did_nothing = { λ _. tt };
 
-    fn reply(&mut self, line: InputLine<'_>, out: &mut Vec<u8>) -> Result<(), Stop<Infallible>> {
+    ghost HasFailed = { λ _. ⊤ };
+
+    fn reply(
+        &mut self,
+        line: InputLine<'_>,
+        out: &mut Vec<u8>,
+    ) -> Result<(), Stop<Infallible, Infallible>> {
         self.calls = noted(self.calls, MET);
         echo(line, out)
     }
 
-    fn settle(&mut self) -> Result<(), AllocError> {
+    fn settle(&mut self) -> Result<(), Infallible> {
         self.calls = noted(self.calls, SETTLED);
         Ok(())
     }
 
-    fn end(&mut self) -> Result<(), Stop<Infallible>> {
+    fn end(&mut self) -> Result<(), Stop<Infallible, Infallible>> {
         Ok(())
     }
 
@@ -208,7 +232,7 @@ impl Sink for Noting {
 
 // What a sink is asked for by such a job over an input of which each read gives so many bytes, and whether the job
 // stopped; 0 where it failed in another way.
-fn asked_by<J: LineJob<Refusal = Infallible>>(
+fn asked_by<J: LineJob<Refusal = Infallible, Failure = Infallible>>(
     alloc: Global,
     job: &mut J,
     input: &str,
@@ -222,7 +246,7 @@ fn asked_by<J: LineJob<Refusal = Infallible>>(
         Ok(()) => Ok(sink.calls),
         Err(JobFault::Memory) => Ok(noted(sink.calls, STOPPED)),
         Err(JobFault::Read | JobFault::Write | JobFault::TooMuch) => Ok(0),
-        Err(JobFault::Refused(never)) => match never {},
+        Err(JobFault::Failed(never) | JobFault::Refused(never)) => match never {},
     }
 }
 

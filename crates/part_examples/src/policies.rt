@@ -8,6 +8,7 @@ use pol_io::{LONGEST_LINE, SureSink, SureSource};
 use pol_jobs::{JobFault, work};
 use pol_policy::{Policy, Verdict, read_policy};
 use std::alloc::Global;
+use std::convert::Infallible;
 use std::test::*;
 
 /// Lines, each with its first fault, or `none` where it says a policy.
@@ -154,17 +155,22 @@ const CIRCLE_LINES: &str = r#"
 "#;
 
 // Guards an input.
-fn guard(alloc: Global, input: Vec<u8>, sink: &mut SureSink) -> Result<(), JobFault<JsonFault>> {
+fn guard(
+    alloc: Global,
+    input: Vec<u8>,
+    sink: &mut SureSink,
+) -> Result<(), JobFault<JsonFault, Infallible>> {
     let mut guarding = Guarding::new(alloc);
     let mut source = SureSource::new(input);
     work(alloc, &mut guarding, &mut source, sink)
 }
 
 // How the guard of an input ended: `done`, or the fault for which it was refused.
-fn ended(alloc: Global, done: Result<(), JobFault<JsonFault>>) -> Result<String, Fail> {
+fn ended(alloc: Global, done: Result<(), JobFault<JsonFault, Infallible>>) -> Result<String, Fail> {
     match done {
         Ok(()) => Ok(String::from_str(alloc, "done")?),
         Err(JobFault::Refused(fault)) => fault_text(alloc, &fault),
+        Err(JobFault::Failed(never)) => match never {},
         Err(JobFault::Memory) => Ok(String::from_str(alloc, "memory")?),
         Err(JobFault::Read | JobFault::Write | JobFault::TooMuch) => {
             Ok(String::from_str(alloc, "other")?)

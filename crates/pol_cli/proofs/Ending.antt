@@ -1,6 +1,7 @@
 -- How a job ended, by how its lines ended.
 use Rattle.std.proofs.Common.{ℕ, ◌≡◌, List, [], Option, refl, subst, arith, inl}
 use Rattle.std.specs.Prelude.{Result, Ok, Err}
+use Rattle.std.specs.declared.convert.Infallible.{Infallible}
 use Rattle.pol_io.specs.Causes.{HasCauseOf}
 use Rattle.pol_io.specs.Edge.{Edge}
 use Rattle.pol_io.proofs.Known.{Keeps_refl}
@@ -35,7 +36,7 @@ use Rattle.pol_cli.specs.declared.status.Status.TheVariants as status
 
 -- a job whose output is the defined one ended as its lines did
 pub job_ends : {Reason : Type 0} (by output : Output Reason) (refused : Reason → Status)
-    (source source' sink sink' : Edge) (result : Result (Unit {0}) (JobFault Reason)) → by ≡ output →
+    (source source' sink sink' : Edge) (result : Result (Unit {0}) (JobFault Reason Infallible)) → by ≡ output →
     Ends by source source' sink sink' result →
     JobEnds output refused source source' sink sink' (status_of refused result)
 job_ends by output refused source source' sink sink' result is ends =
@@ -83,7 +84,7 @@ none_read = record { to_end = refl; fits = omega arith }
 
 -- its line was written
 pub demo_done : (seed : ℕ) (sink sink' : Edge) → Closes (λ text. text ≡ demo_output seed) sink.bytes sink'.bytes →
-    sink'.faults ≡ sink.faults → Ends (demonstrated seed) no_input no_input sink sink' (Ok tt)
+    sink'.faults ≡ sink.faults → Ends {Failure = Infallible} (demonstrated seed) no_input no_input sink sink' (Ok tt)
 demo_done seed sink sink' closes well = (
   record {
     read = none_read;
@@ -100,7 +101,7 @@ demo_done seed sink sink' closes well = (
 pub demo_broken : (seed : ℕ) (sink sink' : Edge) (fault : PutFault) →
     ClosesPart (λ text. text ≡ demo_output seed) sink.bytes sink'.bytes →
     HasCauseOf {T = Unit {0}} put_fault.Write sink.faults sink'.faults (Err fault) →
-    Ends (demonstrated seed) no_input no_input sink sink' (Err (of_output fault))
+    Ends {Failure = Infallible} (demonstrated seed) no_input no_input sink sink' (Err (of_output fault))
 demo_broken seed sink sink' fault closes wrote = by_fault fault wrote
   where
     leaves : LeavesPart (demonstrated seed) sink.bytes sink'.bytes [] []
@@ -110,6 +111,6 @@ demo_broken seed sink sink' fault closes wrote = by_fault fault wrote
 
     by_fault : (fault : PutFault) →
         HasCauseOf {T = Unit {0}} put_fault.Write sink.faults sink'.faults (Err fault) →
-        Ends (demonstrated seed) no_input no_input sink sink' (Err (of_output fault))
+        Ends {Failure = Infallible} (demonstrated seed) no_input no_input sink sink' (Err (of_output fault))
     by_fault put_fault.Write wrote = (leaves, refl, wrote.failed refl)
     by_fault put_fault.Memory wrote = (leaves, refl, wrote.other (λ same. cc))

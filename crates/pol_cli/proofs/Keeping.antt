@@ -129,14 +129,19 @@ IsOfDisk status.DiskFault = Unit {0}
 IsOfDisk (status.NotAStore place) = Unit {0}
 IsOfDisk _ = ⊥
 
+-- no job refuses its input so
+never_refused : (reason : Infallible) → IsOfDisk (no_refusal reason) → ⊥
+never_refused = elim [ ]
+
 -- a job over lines has it only where its refusal has
 job_not_of_disk : {Reason : Type 0} (refused : Reason → Status) → ((reason : Reason) → IsOfDisk (refused reason) → ⊥) →
-    (result : Result (Unit {0}) (JobFault Reason)) → IsOfDisk (status_of refused result) → ⊥
+    (result : Result (Unit {0}) (JobFault Reason Infallible)) → IsOfDisk (status_of refused result) → ⊥
 job_not_of_disk refused never (Ok done) of_disk = of_disk
 job_not_of_disk refused never (Err job.Read) of_disk = of_disk
 job_not_of_disk refused never (Err job.Write) of_disk = of_disk
 job_not_of_disk refused never (Err job.Memory) of_disk = of_disk
 job_not_of_disk refused never (Err job.TooMuch) of_disk = of_disk
+job_not_of_disk refused never (Err (job.Failed nothing)) of_disk = never_refused nothing of_disk
 job_not_of_disk refused never (Err (job.Refused reason)) of_disk = never reason of_disk
 
 -- nor has one that ended
@@ -145,10 +150,6 @@ ended_not_of_disk : {Reason : Type 0} (output : Output Reason) (refused : Reason
     JobEnds output refused source source' sink sink' now → IsOfDisk now → ⊥
 ended_not_of_disk output refused never source source' sink sink' now ends of_disk =
     job_not_of_disk refused never ends.result (subst IsOfDisk ends.told of_disk)
-
--- no job refuses its input so
-never_refused : (reason : Infallible) → IsOfDisk (no_refusal reason) → ⊥
-never_refused = elim [ ]
 
 -- a job of one thread hasn't it
 pub serial_not_of_disk : (task : SerialTask) (source source' sink sink' : Edge) (now : Status) →

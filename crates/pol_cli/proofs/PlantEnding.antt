@@ -1,6 +1,7 @@
 -- How the job plant ended, by how its input was read and its run was written.
 use Rattle.std.proofs.Common.{ℕ, ◌≡◌, ◌∙◌, List, [], ◌∷◌, ◌++◌, refl, sym, arith}
 use Rattle.std.specs.Prelude.{Option, None, Result, Ok, Err, ◌≢◌}
+use Rattle.std.specs.declared.convert.Infallible.{Infallible}
 use Rattle.mtp_json.specs.declared.fault.JsonFault.{JsonFault}
 use Rattle.pol_io.specs.Causes.{HasCauseOf, Rose}
 use Rattle.pol_io.specs.Edge.{Edge}
@@ -11,7 +12,7 @@ use Rattle.pol_jobs.specs.Ends.{refused_input, refused_line, stopped_at_end, sto
 use Rattle.pol_jobs.specs.Faults.{of_output}
 use Rattle.pol_jobs.specs.LineWork.{AcceptsBehind, Output, output_by}
 use Rattle.pol_jobs.specs.declared.fault.JobFault.{JobFault}
-use Rattle.pol_jobs.specs.declared.fault.JobFault.TheVariants.{Read, Write, Memory, TooMuch, Refused}
+use Rattle.pol_jobs.specs.declared.fault.JobFault.TheVariants.{Read, Write, Memory, TooMuch, Failed, Refused}
 use Rattle.pol_jobs.specs.declared.output.PutFault.{PutFault}
 use Rattle.pol_jobs.specs.declared.output.PutFault.TheVariants as put_fault
 use Rattle.pol_jobs.proofs.Ending.{completes}
@@ -78,7 +79,7 @@ module _ (held nowhere nowhere' : Option (List ℕ)) where
       })
 
 -- where the text wasn't read, or says no site, nothing was written
-pub unread_ends : (source source' sink : Edge) (fault : JobFault JsonFault) →
+pub unread_ends : (source source' sink : Edge) (fault : JobFault JsonFault Infallible) →
     Ends reading source source' (edge None 0) (edge None 0) (Err fault) →
     Ends planted source source' sink sink (Err fault)
 unread_ends source source' sink Read ends =
@@ -88,16 +89,19 @@ unread_ends source source' sink Memory ends =
     (between_weaker _ _ source.bytes source'.bytes (part_so sink.bytes None None) ends.0, ends.1, refl)
 unread_ends source source' sink TooMuch ends =
     (between_weaker _ _ source.bytes source'.bytes (more_so sink.bytes None None) ends.0, ends.1, refl, ends.3)
+unread_ends source source' sink (Failed never) ends =
+    (between_weaker _ _ source.bytes source'.bytes (part_so sink.bytes None None) ends.0, ends.1, refl)
 unread_ends source source' sink (Refused fault) ends =
     (between_weaker _ _ source.bytes source'.bytes (refused_so sink.bytes None None fault) ends.0, ends.1, refl)
 
 -- nor did the sink fail
-pub no_write : (source source' : Edge) (fault : JobFault JsonFault) →
+pub no_write : (source source' : Edge) (fault : JobFault JsonFault Infallible) →
     Ends reading source source' (edge None 0) (edge None 0) (Err fault) → fault ≢ Write
 no_write source source' Read ends = λ is. cc
 no_write source source' Write ends = λ is. not_nowhere ends.2
 no_write source source' Memory ends = λ is. cc
 no_write source source' TooMuch ends = λ is. cc
+no_write source source' (Failed never) ends = λ is. cc
 no_write source source' (Refused fault) ends = λ is. cc
 
 -- ---- a text that says a site
@@ -106,7 +110,7 @@ module _ (site : PlainSite) (source source' : Edge) (says : Between (Says (Ok si
     (well : source'.faults ≡ source.faults) where
   -- all of a run was written
   pub run_done : (sink sink' : Edge) → PutsRun site sink.bytes sink'.bytes → sink'.faults ≡ sink.faults →
-      Ends planted source source' sink sink' (Ok tt)
+      Ends {Failure = Infallible} planted source source' sink sink' (Ok tt)
   run_done sink sink' puts wrote = (
     between_weaker _ (Writes planted sink.bytes sink'.bytes) source.bytes source'.bytes
         (λ bytes left said. record {
@@ -146,7 +150,7 @@ module _ (site : PlainSite) (source source' : Edge) (says : Between (Says (Ok si
   -- with the fault that ended it
   pub run_broken : (sink sink' : Edge) (fault : PutFault) → PutsPart site sink.bytes sink'.bytes →
       HasCauseOf {T = Unit {0}} put_fault.Write sink.faults sink'.faults (Err fault) →
-      Ends planted source source' sink sink' (Err (of_output fault))
+      Ends {Failure = Infallible} planted source source' sink sink' (Err (of_output fault))
   run_broken sink sink' put_fault.Write puts wrote = (broken_leaves sink sink' puts, well, wrote.failed refl)
   run_broken sink sink' put_fault.Memory puts wrote =
       (broken_leaves sink sink' puts, well, wrote.other (λ same. cc))
@@ -154,7 +158,7 @@ module _ (site : PlainSite) (source source' : Edge) (says : Between (Says (Ok si
 -- ---- its status
 
 -- what is known of the result is known of its status
-pub plant_ends : (source source' sink sink' : Edge) (result : Result (Unit {0}) (JobFault JsonFault)) →
+pub plant_ends : (source source' sink sink' : Edge) (result : Result (Unit {0}) (JobFault JsonFault Infallible)) →
     Ends planted source source' sink sink' result →
     RunWrites source.bytes source'.bytes sink.bytes sink'.bytes result →
     PlantEnds source source' sink sink' (status_of (refused_as Site) result)

@@ -91,7 +91,7 @@ pub record WritesRunPart (begin left held held' : Option (List ℕ)) : Type 0 wh
 -- what was written, whether the source tells its bytes or not: at the end all, where the sink failed a part, and for
 -- want of memory none or a part; where no run was begun, nothing
 abbrev pub RunWrites : Option (List ℕ) → Option (List ℕ) → Option (List ℕ) → Option (List ℕ)
-    → Result (Unit {0}) (JobFault JsonFault) → Type 0
+    → Result (Unit {0}) (JobFault JsonFault Infallible) → Type 0
 RunWrites begin left held held' (Ok done) = WritesRun begin left held held'
 RunWrites begin left held held' (Err Write) = WritesRunPart begin left held held'
 RunWrites begin left held held' (Err Memory) = Keeps held held' ⊎ WritesRunPart begin left held held'

@@ -33,7 +33,7 @@ demonstrated seed = texts_of (λ lines. []) (λ input. demo_output seed)
 -- and whose row of `Ends` holds; and where nothing failed the result is the one that is due.
 pub record JobEnds {Reason : Type 0} (output : Output Reason) (refused : Reason → Status)
     (source source' sink sink' : Edge) (status : Status) : Type 0 where
-  pub result : Result (Unit {0}) (JobFault Reason)
+  pub result : Result (Unit {0}) (JobFault Reason Infallible)
   pub told : status ≡ status_of refused result
   pub ends : Ends output source source' sink sink' result
   pub complete : Completes output source source' sink sink' result

@@ -52,6 +52,8 @@ impl Finding {
 impl LineJob for Finding {
     type Refusal = Infallible;
 
+    type Failure = Infallible;
+
     const SETTLES_EACH: bool = true;
 
     const HANDS_ON_EACH: bool = false;
@@ -73,7 +75,13 @@ impl LineJob for Finding {
 
     ghost did_nothing = { λ _. tt };
 
-    fn reply(&mut self, line: InputLine<'_>, _out: &mut Vec<u8>) -> Result<(), Stop<Infallible>> {
+    ghost HasFailed = { λ _. ⊤ };
+
+    fn reply(
+        &mut self,
+        line: InputLine<'_>,
+        _out: &mut Vec<u8>,
+    ) -> Result<(), Stop<Infallible, Infallible>> {
         match read_meaning::<JournalLines>(self.alloc, line)? {
             LineMeaning::Nothing => {}
             LineMeaning::Fault(_) => self.bad = self.bad.saturating_add(1),
@@ -82,11 +90,11 @@ impl LineJob for Finding {
         Ok(())
     }
 
-    fn settle(&mut self) -> Result<(), AllocError> {
+    fn settle(&mut self) -> Result<(), Infallible> {
         Ok(())
     }
 
-    fn end(&mut self) -> Result<(), Stop<Infallible>> {
+    fn end(&mut self) -> Result<(), Stop<Infallible, Infallible>> {
         Ok(())
     }
 

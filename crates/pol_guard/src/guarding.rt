@@ -16,7 +16,8 @@ use pol_io::Sink;
 use pol_jobs::{InputLine, LineJob, PutFault, Stop};
 use pol_policy::{Policy, read_policy};
 use pol_replay::close;
-use std::alloc::{AllocError, Global};
+use std::alloc::Global;
+use std::convert::Infallible;
 
 /// What a guard has between two lines.
 #[derive(Drop)]
@@ -48,7 +49,7 @@ fn whole(alloc: Global, kind: FaultKind) -> JsonFault
 }
 
 // The policy that a line says.
-fn policy_said(alloc: Global, line: InputLine<'_>) -> Result<Policy, Stop<JsonFault>>
+fn policy_said(alloc: Global, line: InputLine<'_>) -> Result<Policy, Stop<JsonFault, Infallible>>
     ensures says { IfOk result (λ policy. policy_said (plain_line line.entry) ≡ Ok (plain_policy policy)) }
     ensures refused { IfErr result (RefusedFor (λ fault. policy_said (plain_line line.entry) ≡ Err fault)) }
 {
@@ -85,6 +86,8 @@ impl Guarding {
 impl LineJob for Guarding {
     type Refusal = JsonFault;
 
+    type Failure = Infallible;
+
     const SETTLES_EACH: bool = true;
 
     const HANDS_ON_EACH: bool = false;
@@ -107,7 +110,13 @@ impl LineJob for Guarding {
 
     ghost did_nothing = { λ _. tt };
 
-    fn reply(&mut self, line: InputLine<'_>, out: &mut Vec<u8>) -> Result<(), Stop<JsonFault>> {
+    ghost HasFailed = { λ _. ⊤ };
+
+    fn reply(
+        &mut self,
+        line: InputLine<'_>,
+        out: &mut Vec<u8>,
+    ) -> Result<(), Stop<JsonFault, Infallible>> {
         match &mut self.guard {
             Guard::Waiting => {
                 if !is_some_line(line) {
@@ -124,11 +133,11 @@ impl LineJob for Guarding {
         Ok(())
     }
 
-    fn settle(&mut self) -> Result<(), AllocError> {
+    fn settle(&mut self) -> Result<(), Infallible> {
         Ok(())
     }
 
-    fn end(&mut self) -> Result<(), Stop<JsonFault>> {
+    fn end(&mut self) -> Result<(), Stop<JsonFault, Infallible>> {
         match &self.guard {
             Guard::Waiting => Err(Stop::Refused(whole(self.alloc, FaultKind::Missing))),
             Guard::Begun { .. } => Ok(()),

@@ -1,5 +1,5 @@
 -- What else a job did, line after line.
-use Rattle.std.proofs.Common.{ℕ, ◌≡◌, ◌⊎◌, inl, inr, List, [], ◌∷◌, ◌++◌, Bool, true, false, map, refl, sym, ◌∙◌, ap, subst, append_assoc, append-nil}
+use Rattle.std.proofs.Common.{ℕ, ◌≡◌, inl, inr, List, [], ◌∷◌, ◌++◌, Bool, true, false, map, refl, sym, ◌∙◌, ap, subst, append_assoc, append-nil}
 use Rattle.std.specs.Prelude.{IsTrue, Option, Some, None, Result, Ok, Err, IsOk, IfSome}
 use Rattle.std.specs.Result.{is_ok}
 use Rattle.std.proofs.lemmas.List.{map-append}
@@ -188,13 +188,13 @@ module _ {State Reason Job : Type 0} (work : LineWork State Reason) (Did : Deeds
   -- ---- lines that were replied to
 
   -- where the next line is replied to as it should be, it is one more of those that wait
-  line_served : (now next : Moment State) (held held' : Option (List ℕ)) (buffer bytes text rest reply : List ℕ)
+  line_served : (Failure : Type 0) (now next : Moment State) (held held' : Option (List ℕ)) (buffer bytes text rest reply : List ℕ)
       (settled waiting : List Line) (one : Line) →
       ServedLines work settled waiting first now held held' buffer bytes text →
-      Replies work now.state next.state next.lines.ended (Some (Ok tt)) reply one text rest →
+      Replies {Failure = Failure} work now.state next.state next.lines.ended (Some (Ok tt)) reply one text rest →
       ServedLines work settled (waiting ++ one ∷ []) first next held held' (buffer ++ reply) bytes rest
   unfolding served_next
-  line_served now next held held' buffer bytes text rest reply settled waiting one so_far replied =
+  line_served Failure now next held held' buffer bytes text rest reply settled waiting one so_far replied =
       subst (λ reply. ServedLines work settled (waiting ++ one ∷ []) first next held held' (buffer ++ reply) bytes rest)
       (sym replied.2.said) (record {
         served = served_next work first now next held held' buffer bytes text rest replied.0 so_far.served replied.1
@@ -205,12 +205,12 @@ module _ {State Reason Job : Type 0} (work : LineWork State Reason) (Did : Deeds
       })
 
   -- the same, where the source tells its bytes
-  pub served_on : (job job' : Job) (now next : Moment State) (held held' : Option (List ℕ)) (buffer more : List ℕ)
-      (made : Result (Unit {0}) (Stop Reason)) (reply : List ℕ) → more ≡ buffer ++ reply → IsOk made →
+  pub served_on : {Failure : Type 0} (job job' : Job) (now next : Moment State) (held held' : Option (List ℕ)) (buffer more : List ℕ)
+      (made : Result (Unit {0}) (Stop Reason Failure)) (reply : List ℕ) → more ≡ buffer ++ reply → IsOk made →
       HasServed work (Did start job) first now held held' buffer →
       IsNext work Did job job' now next (Some made) reply →
       HasServed work (Did start job') first next held held' more
-  served_on job job' now next held held' buffer more made reply more_is ok has is_next = rw more_is (record {
+  served_on {Failure = Failure} job job' now next held held' buffer more made reply more_is ok has is_next = rw more_is (record {
     settled = has.settled;
     waiting = has.waiting ++ is_next.next ∷ [];
     did = subst (Did start job' has.settled (has.waiting ++ is_next.next ∷ [])) (made_ok made ok)
@@ -219,7 +219,7 @@ module _ {State Reason Job : Type 0} (work : LineWork State Reason) (Did : Deeds
         is_next.replies ok;
   })
     where
-      known_bytes : (begin text rest : Option (List ℕ)) (made : Result (Unit {0}) (Stop Reason)) →
+      known_bytes : (begin text rest : Option (List ℕ)) (made : Result (Unit {0}) (Stop Reason Failure)) →
           Between (ServedLines work has.settled has.waiting first now held held' buffer) begin text →
           Between (Replies work now.state next.state next.lines.ended (Some made) reply is_next.next) text rest →
           IsOk made →
@@ -230,12 +230,12 @@ module _ {State Reason Job : Type 0} (work : LineWork State Reason) (Did : Deeds
       known_bytes (Some bytes) (Some text) None made so_far replied ok = absurd replied
       known_bytes (Some bytes) (Some text) (Some rest) (Err error) so_far replied ok = cc
       known_bytes (Some bytes) (Some text) (Some rest) (Ok done) so_far replied ok =
-          line_served now next held held' buffer bytes text rest reply has.settled has.waiting is_next.next so_far
+          line_served Failure now next held held' buffer bytes text rest reply has.settled has.waiting is_next.next so_far
           replied
 
   -- the end was seen behind them
-  pub served_last : (job job' : Job) (now last : Moment State) (held held' : Option (List ℕ)) (buffer reply : List ℕ) →
-      HasServed work (Did start job) first now held held' buffer → IsNext work Did job job' now last None reply →
+  pub served_last : {Failure : Type 0} (job job' : Job) (now last : Moment State) (held held' : Option (List ℕ)) (buffer reply : List ℕ) →
+      HasServed work (Did start job) first now held held' buffer → IsNext {Failure = Failure} work Did job job' now last None reply →
       HasServed work (Did start job') first last held held' buffer
   unfolding served_end
   served_last job job' now last held held' buffer reply has is_next = record {
@@ -320,8 +320,8 @@ module _ {State Reason Job : Type 0} (work : LineWork State Reason) (Did : Deeds
   }
 
   -- the next line was met, and no more
-  did_met : (job job' last : Job) (now next : Moment State) (held held' : Option (List ℕ)) (buffer : List ℕ)
-      (made : Result (Unit {0}) (Stop Reason)) (out : List ℕ) (whole : Bool) →
+  did_met : {Failure : Type 0} (job job' last : Job) (now next : Moment State) (held held' : Option (List ℕ)) (buffer : List ℕ)
+      (made : Result (Unit {0}) (Stop Reason Failure)) (out : List ℕ) (whole : Bool) →
       (has : HasServed work (Did start job) first now held held' buffer) →
       (is_next : IsNext work Did job job' now next (Some made) out) →
       Did start last has.settled (has.waiting ++ is_next.next ∷ []) whole →
@@ -340,8 +340,8 @@ module _ {State Reason Job : Type 0} (work : LineWork State Reason) (Did : Deeds
   }
 
   -- there was no memory to hold the reply to it
-  pub did_unheld : (job job' : Job) (now next : Moment State) (held held' : Option (List ℕ)) (buffer : List ℕ)
-      (made : Result (Unit {0}) (Stop Reason)) (out : List ℕ) →
+  pub did_unheld : {Failure : Type 0} (job job' : Job) (now next : Moment State) (held held' : Option (List ℕ)) (buffer : List ℕ)
+      (made : Result (Unit {0}) (Stop Reason Failure)) (out : List ℕ) →
       HasServed work (Did start job) first now held held' buffer →
       IsNext work Did job job' now next (Some made) out →
       DidSome work first.state (Did start job') held held' first.left
@@ -350,8 +350,8 @@ module _ {State Reason Job : Type 0} (work : LineWork State Reason) (Did : Deeds
       (is_next.did start has.settled has.waiting has.did)
 
   -- the lines before it were settled, and the job had stopped there
-  did_stopped : (job job' last : Job) (now next : Moment State) (held between held' : Option (List ℕ))
-      (buffer : List ℕ) (made : Result (Unit {0}) (Stop Reason)) (out : List ℕ) →
+  did_stopped : {Failure : Type 0} (job job' last : Job) (now next : Moment State) (held between held' : Option (List ℕ))
+      (buffer : List ℕ) (made : Result (Unit {0}) (Stop Reason Failure)) (out : List ℕ) →
       (has : HasServed work (Did start job) first now held between buffer) →
       (is_next : IsNext work Did job job' now next (Some made) out) →
       Did start last (has.settled ++ has.waiting) (is_next.next ∷ []) false → WritesSome between held' buffer →
@@ -371,8 +371,8 @@ module _ {State Reason Job : Type 0} (work : LineWork State Reason) (Did : Deeds
   }
 
   -- the job stopped at the next line
-  stops_at : (halt : Stop Reason) (job job' : Job) (now next : Moment State) (held between : Option (List ℕ))
-      (buffer : List ℕ) (made : Result (Unit {0}) (Stop Reason)) (out : List ℕ) → made ≡ Err halt →
+  stops_at : {Failure : Type 0} (halt : Stop Reason Failure) (job job' : Job) (now next : Moment State) (held between : Option (List ℕ))
+      (buffer : List ℕ) (made : Result (Unit {0}) (Stop Reason Failure)) (out : List ℕ) → made ≡ Err halt →
       (has : HasServed work (Did start job) first now held between buffer) →
       (is_next : IsNext work Did job job' now next (Some made) out) →
       Did start job' has.settled (has.waiting ++ is_next.next ∷ []) false
@@ -381,8 +381,8 @@ module _ {State Reason Job : Type 0} (work : LineWork State Reason) (Did : Deeds
       (is_next.did start has.settled has.waiting has.did)
 
   -- and the replies to those before it were put out
-  pub did_stop : (each : Bool) (halt : Stop Reason) (job job' last : Job) (now next : Moment State)
-      (held between held' : Option (List ℕ)) (buffer : List ℕ) (made : Result (Unit {0}) (Stop Reason))
+  pub did_stop : {Failure : Type 0} (each : Bool) (halt : Stop Reason Failure) (job job' last : Job) (now next : Moment State)
+      (held between held' : Option (List ℕ)) (buffer : List ℕ) (made : Result (Unit {0}) (Stop Reason Failure))
       (out : List ℕ) → made ≡ Err halt → HasServed work (Did start job) first now held between buffer →
       IsNext work Did job job' now next (Some made) out → PutsBefore Did each job' last between held' buffer →
       DidSome work first.state (Did start last) held held' first.left
@@ -396,8 +396,8 @@ module _ {State Reason Job : Type 0} (work : LineWork State Reason) (Did : Deeds
       (all_written between held' buffer puts.1.written)
 
   -- or not all of them
-  pub did_stop_part : (each : Bool) (halt : Stop Reason) (job job' last : Job) (now next : Moment State)
-      (held between held' : Option (List ℕ)) (buffer : List ℕ) (made : Result (Unit {0}) (Stop Reason))
+  pub did_stop_part : {Failure : Type 0} (each : Bool) (halt : Stop Reason Failure) (job job' last : Job) (now next : Moment State)
+      (held between held' : Option (List ℕ)) (buffer : List ℕ) (made : Result (Unit {0}) (Stop Reason Failure))
       (out : List ℕ) → made ≡ Err halt → HasServed work (Did start job) first now held between buffer →
       IsNext work Did job job' now next (Some made) out → each ≡ false →
       PutsPart Did each job' last between held' buffer →

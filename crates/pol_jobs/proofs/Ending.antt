@@ -10,12 +10,19 @@ use Rattle.pol_jobs.specs.Ends.{Completes, Ends, IsRefused, IsTooMuch, Writes, r
 use Rattle.pol_jobs.specs.LineWork.{Output, AcceptsAll}
 use Rattle.pol_jobs.specs.Moments.{Leaves}
 use Rattle.pol_jobs.specs.declared.fault.JobFault.{JobFault}
-use Rattle.pol_jobs.specs.declared.fault.JobFault.TheVariants.{Read, Write, Memory, TooMuch, Refused}
+use Rattle.pol_jobs.specs.declared.fault.JobFault.TheVariants.{Read, Write, Memory, TooMuch, Failed, Refused}
 use Rattle.pol_jobs.proofs.Accepting.{not_accepted}
 
-module _ {Reason : Type 0} (output : Output Reason) (source source' sink sink' : Edge) where
+-- what is refused isn't accepted
+refused_not : {Reason : Type 0} (output : Output Reason) (sink sink' : Edge) (reason : Reason) (bytes left : List ℕ) → IsRefused output reason sink.bytes sink'.bytes bytes left →
+    ¬ AcceptsAll output bytes
+refused_not output sink sink' reason bytes left (refused_line line) accepted =
+    not_accepted output bytes line.done line.piece _ reason line.is_line line.refuses accepted.0
+refused_not output sink sink' reason bytes left (refused_input input) accepted = accepted.1 reason input.refuses
+
+module _ {Reason Failure : Type 0} (output : Output Reason) (source source' sink sink' : Edge) where
   -- what is known of the lines is known of the job
-  pub work_ends : (result : Result (Unit {0}) (JobFault Reason)) →
+  pub work_ends : (result : Result (Unit {0}) (JobFault Reason Failure)) →
       OnOk result (Between (Writes output sink.bytes sink'.bytes) source.bytes source'.bytes) →
       IfErr result (λ fault. Between (Leaves output sink.bytes sink'.bytes fault) source.bytes source'.bytes) →
       IfErr result (λ fault. fault ≡ TooMuch → IsTooMuch source.bytes) →
@@ -28,24 +35,21 @@ module _ {Reason : Type 0} (output : Output Reason) (source source' sink sink' :
       (leaves, read.other (λ same. cc), wrote.other (λ same. cc))
   work_ends (Err TooMuch) writes leaves much read wrote =
       (leaves, read.other (λ same. cc), wrote.other (λ same. cc), much refl)
+  work_ends (Err (Failed failure)) writes leaves much read wrote =
+      (leaves, read.other (λ same. cc), wrote.other (λ same. cc))
   work_ends (Err (Refused reason)) writes leaves much read wrote =
       (leaves, read.other (λ same. cc), wrote.other (λ same. cc))
 
-  -- what is refused isn't accepted
-  refused_not : (reason : Reason) (bytes left : List ℕ) → IsRefused output reason sink.bytes sink'.bytes bytes left →
-      ¬ AcceptsAll output bytes
-  refused_not reason bytes left (refused_line line) accepted =
-      not_accepted output bytes line.done line.piece _ reason line.is_line line.refuses accepted.0
-  refused_not reason bytes left (refused_input input) accepted = accepted.1 reason input.refuses
-
   -- with no fault of source or sink, and an input that fits, the result is the one that is due
-  pub completes : (result : Result (Unit {0}) (JobFault Reason)) → Ends output source source' sink sink' result →
+  pub completes : (result : Result (Unit {0}) (JobFault Reason Failure)) → Ends output source source' sink sink' result →
       Completes output source source' sink sink' result
   completes (Ok done) ends unread unwritten =
       between_weaker _ _ source.bytes source'.bytes (λ bytes left writes fits. writes.accepted) ends.0
   completes (Err Read) ends unread unwritten = absurd (unread ends.1)
   completes (Err Write) ends unread unwritten = absurd (unwritten ends.2)
   completes (Err Memory) ends unread unwritten =
+      between_weaker _ _ source.bytes source'.bytes (λ bytes left leaves fits. tt) ends.0
+  completes (Err (Failed failure)) ends unread unwritten =
       between_weaker _ _ source.bytes source'.bytes (λ bytes left leaves fits. tt) ends.0
   completes (Err TooMuch) ends unread unwritten = too_long _ source.bytes source'.bytes ends.0 ends.3
     where
@@ -55,5 +59,6 @@ module _ {Reason : Type 0} (output : Output Reason) (source source' sink sink' :
       too_long P (Some bytes) None known much = absurd known
       too_long P (Some bytes) (Some left) known much = λ fits. omega arith
   completes (Err (Refused reason)) ends unread unwritten =
-      between_weaker _ _ source.bytes source'.bytes (λ bytes left refused fits. refused_not reason bytes left refused)
+      between_weaker _ _ source.bytes source'.bytes (λ bytes left refused fits. refused_not output sink sink' reason bytes left
+      refused)
       ends.0

@@ -5,3 +5,4 @@ pub mod Serving
 pub mod Deeds
 pub mod Ending
 pub mod Closing
+mod Refusing

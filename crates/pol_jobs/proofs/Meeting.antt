@@ -38,20 +38,26 @@ behind_nothing : {E : Type 0} (result : Result (Unit {0}) E) (out old reply : Li
 behind_nothing (Ok done) out old reply empty is = is ∙ ap (λ old. old ++ reply) empty
 behind_nothing (Err stop) out old reply empty is = tt
 
-module _ {State Reason Job : Type 0} (work : LineWork State Reason) (Did : Deeds Job) (job job' : Job)
-    (before now : Moment State) (made : Result (Unit {0}) (Stop Reason)) (old out : List ℕ) (empty : old ≡ []) where
+module _ {State Reason Failure Job : Type 0} (work : LineWork State Reason) (Did : Deeds Job) (job job' : Job)
+    (before now : Moment State) (made : Result (Unit {0}) (Stop Reason Failure)) (old out : List ℕ) (empty : old ≡ []) where
+  -- a line was met
+  met_so : (one : Line) → OnOk made (out ≡ old ++ work.reply before.state one) →
+      OnOk made (now.state ≡ work.after before.state one) → OnOk made (Accepts work before.state one) →
+      IfErr made (RefusedFor (work.Refuses before.state one)) → Met work before.state now.state made out one
+  met_so one said after accepted refused = record {
+    said = behind_nothing made out old (work.reply before.state one) empty said;
+    after = after;
+    accepted = accepted;
+    refused = refused;
+  }
+
   -- a line that was met so
   met_as : (text : List ℕ) (one : Line) → met text ≡ one →
       OnOk made (out ≡ old ++ work.reply before.state one) → OnOk made (now.state ≡ work.after before.state one) →
       OnOk made (Accepts work before.state one) → IfErr made (RefusedFor (work.Refuses before.state one)) →
       Met work before.state now.state made out (met text)
   met_as text one same said after accepted refused =
-      subst (Met work before.state now.state made out) (sym same) (record {
-        said = behind_nothing made out old (work.reply before.state one) empty said;
-        after = after;
-        accepted = accepted;
-        refused = refused;
-      })
+      subst (Met work before.state now.state made out) (sym same) (met_so one said after accepted refused)
 
   -- a line that isn't too long
   pub text_next : (text : Bor (List ℕ)) →
@@ -72,6 +78,7 @@ module _ {State Reason Job : Type 0} (work : LineWork State Reason) (Did : Deeds
           met_as text.now (Some text.now) (met_short text.now reads.in_limit) said after accepted refused,
           sym (met_short text.now reads.in_limit),
         )) reads.answers;
+    met = met_so (Some text.now) said after accepted refused;
     did = did;
     gives = reads.gives;
     moves = record {
@@ -101,6 +108,7 @@ module _ {State Reason Job : Type 0} (work : LineWork State Reason) (Did : Deeds
           met_as told.0 None (met_long told.0 told.2) said after accepted refused,
           sym (met_long told.0 told.2),
         )) reads.answers;
+    met = met_so None said after accepted refused;
     did = did;
     gives = reads.gives;
     moves = record {

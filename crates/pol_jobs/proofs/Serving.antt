@@ -15,12 +15,13 @@ use Rattle.pol_io.proofs.FirstLines.{done_all, done_next, done_whole, pieces_nex
 use Rattle.pol_io.proofs.Known.{Appends_trans, Keeps_refl, between_both, between_trans, between_weaker, counts_kept, counts_trans}
 use Rattle.pol_io.proofs.Pieces.{pieces_append, pieces_joined, whole_append}
 use Rattle.pol_jobs.specs.Ends.{IsRead, IsTooMuch, LeavesPart, stopped_within, stopped_at_end, stopped_closing, Takes, IsRefused, refused_line, refused_input, WritesTaken, WritesTakenAndMore, WritesTakenPart}
-use Rattle.pol_jobs.specs.Faults.{RefusedFor, of_lines, of_output, of_stop}
+use Rattle.pol_jobs.specs.Faults.{IsOfPutting, RefusedFor, of_lines, of_output, of_stop}
 use Rattle.pol_jobs.specs.LineWork.{Line, LineWork, Output, Accepts, AcceptsBehind, AcceptsLines, line_met, met, replies, after_all, output_by}
 use Rattle.pol_jobs.specs.Moments.{moment, Moment, Moves, IsFresh, IsServed, Leaves, Replied, Replies, Served}
 use Rattle.pol_jobs.specs.Settling.{Deeds, PutsBefore, PutsPart}
 use Rattle.pol_jobs.specs.Written.{ClosesPart, WritesSome}
-use Rattle.pol_jobs.specs.declared.fault.JobFault.TheVariants.{TooMuch}
+use Rattle.pol_jobs.specs.declared.fault.JobFault.{JobFault}
+use Rattle.pol_jobs.specs.declared.fault.JobFault.TheVariants as job_fault
 use Rattle.pol_jobs.specs.declared.output.PutFault.{PutFault}
 use Rattle.pol_jobs.specs.declared.output.PutFault.TheVariants as put_fault
 use Rattle.pol_jobs.specs.declared.stop.Stop.{Stop}
@@ -130,9 +131,9 @@ much_counted first now left fresh moves stops =
     (rw (stops.too_much refl).0 at stops.counted)
 
 -- so the input has more
-pub too_much_counted : {State Reason : Type 0} (first now : Moment State) (left : Option (List ℕ)) (fault : IoFault) →
+pub too_much_counted : {State Reason Failure : Type 0} (first now : Moment State) (left : Option (List ℕ)) (fault : IoFault) →
     IsFresh first.lines → Moves first now →
-    Stops now.lines.taken (ahead now.lines now.left) now.left left fault → of_lines {Reason = Reason} fault ≡ TooMuch →
+    Stops now.lines.taken (ahead now.lines now.left) now.left left fault → of_lines {Reason = Reason} {Failure = Failure} fault ≡ job_fault.TooMuch →
     IsTooMuch first.left
 too_much_counted first now left io_fault.Read fresh moves stops is = cc
 too_much_counted first now left io_fault.TooMuch fresh moves stops is = over first.left left
@@ -155,11 +156,15 @@ nothing_leaves output held (Some bytes) = stopped_within (record {
 })
 
 -- where the output failed a part of it is left
-pub output_leaves : {Reason : Type 0} (output : Output Reason) (held held' begin left : Option (List ℕ))
-    (fault : PutFault) → Between (LeavesPart output held held') begin left →
-    Between (Leaves output held held' (of_output fault)) begin left
-output_leaves output held held' begin left put_fault.Write leaves = leaves
-output_leaves output held held' begin left put_fault.Memory leaves = leaves
+pub output_leaves : {Reason Failure : Type 0} (output : Output Reason) (held held' begin left : Option (List ℕ))
+    (So : Type 0) (fault : JobFault Reason Failure) → IsOfPutting So fault →
+    Between (LeavesPart output held held') begin left → Between (Leaves output held held' fault) begin left
+output_leaves output held held' begin left So job_fault.Write is leaves = leaves
+output_leaves output held held' begin left So job_fault.Memory is leaves = leaves
+output_leaves output held held' begin left So (job_fault.Failed failure) is leaves = leaves
+output_leaves output held held' begin left So job_fault.Read is leaves = absurd is
+output_leaves output held held' begin left So job_fault.TooMuch is leaves = absurd is
+output_leaves output held held' begin left So (job_fault.Refused reason) is leaves = absurd is
 
 -- ---- replies to lines, one after another
 
@@ -241,24 +246,32 @@ module _ {State Reason : Type 0} (work : LineWork State Reason) (start : State) 
       })) all
 
   -- the closing text was not written whole
-  pub unclosed : (fault : PutFault) (held between held' begin left : Option (List ℕ)) (state : State) →
+  pub unclosed : (Failure : Type 0) (fault : PutFault) (held between held' begin left : Option (List ℕ)) (state : State) →
       Between (Replied work start state held between) begin left → ClosesPart (work.Closing state) between held' →
-      Between (Leaves (output_by work start) held held' (of_output fault)) begin left
-  unclosed put_fault.Write held between held' begin left state all part =
+      Between (Leaves {Failure = Failure} (output_by work start) held held' (of_output fault)) begin left
+  unclosed Failure put_fault.Write held between held' begin left state all part =
       end_broken held between held' begin left state all part
-  unclosed put_fault.Memory held between held' begin left state all part =
+  unclosed Failure put_fault.Memory held between held' begin left state all part =
       end_broken held between held' begin left state all part
 
-  -- the job stopped at the end of its input: there was no memory, or it refuses it
-  pub end_stopped : (halt : Stop Reason) (held held' begin left : Option (List ℕ)) (state : State) →
-      Between (Replied work start state held held') begin left → RefusedFor (work.RefusesEnd state) halt →
-      Between (Leaves (output_by work start) held held' (of_stop halt)) begin left
-  end_stopped stop.Memory held held' begin left state all refuses =
+  -- all replies were written, and nothing of what closes the output
+  end_reached : (held held' begin left : Option (List ℕ)) (state : State) →
+      Between (Replied work start state held held') begin left →
+      Between (LeavesPart (output_by work start) held held') begin left
+  end_reached held held' begin left state all =
       between_weaker (Replied work start state held held') (LeavesPart (output_by work start) held held') begin left
       (λ bytes rest done. stopped_at_end (record {
         read = done.read;
         some = all_written held held' (replied bytes) done.written;
       })) all
+
+  -- the job stopped at the end of its input: there was no memory, or it failed, or it refuses it
+  pub end_stopped : {Failure : Type 0} (halt : Stop Reason Failure) (held held' begin left : Option (List ℕ)) (state : State) →
+      Between (Replied work start state held held') begin left → RefusedFor (work.RefusesEnd state) halt →
+      Between (Leaves (output_by work start) held held' (of_stop halt)) begin left
+  end_stopped stop.Memory held held' begin left state all refuses = end_reached held held' begin left state all
+  end_stopped (stop.Failed failure) held held' begin left state all refuses =
+      end_reached held held' begin left state all
   end_stopped (stop.Refused reason) held held' begin left state all refuses =
       between_weaker (Replied work start state held held') (IsRefused (output_by work start) reason held held') begin
       left
@@ -469,8 +482,8 @@ module _ {State Reason : Type 0} (work : LineWork State Reason) (first : Moment 
       }) served)
 
   -- the next line was met, and the reply to it wasn't written
-  part_before : (now next : Moment State) (held between held' : Option (List ℕ)) (buffer : List ℕ) (one : Line)
-      (made : Result (Unit {0}) (Stop Reason)) (out : List ℕ) → IsFresh first.lines →
+  part_before : {Failure : Type 0} (now next : Moment State) (held between held' : Option (List ℕ)) (buffer : List ℕ) (one : Line)
+      (made : Result (Unit {0}) (Stop Reason Failure)) (out : List ℕ) → IsFresh first.lines →
       IsServed work first now held between buffer →
       Between (Replies work now.state next.state next.lines.ended (Some made) out one) (ahead now.lines now.left)
       (ahead next.lines next.left) →
@@ -521,12 +534,12 @@ module _ {State Reason : Type 0} (work : LineWork State Reason) (first : Moment 
   some_part Did each job job' between held' buffer (inr put) = rw put.1 (nothing_written between buffer)
 
   -- the job refused its input with the next line
-  stopped_refused : (now next : Moment State) (reason : Reason) (held held' : Option (List ℕ)) (one : Line)
+  stopped_refused : (Failure : Type 0) (now next : Moment State) (reason : Reason) (held held' : Option (List ℕ)) (one : Line)
       (out : List ℕ) → IsFresh first.lines → IsServed work first now held held' [] →
-      Between (Replies work now.state next.state next.lines.ended (Some (Err (stop.Refused reason))) out one)
+      Between (Replies {Failure = Failure} work now.state next.state next.lines.ended (Some (Err (stop.Refused reason))) out one)
       (ahead now.lines now.left) (ahead next.lines next.left) → Moves first next →
       Between (IsRefused (output_by work first.state) reason held held') first.left next.left
-  stopped_refused now next reason held held' one out fresh served replied_so moves =
+  stopped_refused Failure now next reason held held' one out fresh served replied_so moves =
       known_bytes next.lines.ended first.left
       (ahead now.lines now.left) next.lines.waiting next.left served replied_so moves.counted
       moves.spent (read_to_end first next fresh moves)
@@ -549,7 +562,7 @@ module _ {State Reason : Type 0} (work : LineWork State Reason) (first : Moment 
 
       known_bytes : (ended : Bool) (begin text : Option (List ℕ)) (waiting : List ℕ) (left : Option (List ℕ)) →
           Between (Served work first now held held' []) begin text →
-          Between (Replies work now.state next.state ended (Some (Err (stop.Refused reason))) out one) text
+          Between (Replies {Failure = Failure} work now.state next.state ended (Some (Err (stop.Refused reason))) out one) text
           (joined ended waiting left) →
           Between (Counts first.lines.taken next.lines.taken) begin left → (IsTrue ended → waiting ≡ []) →
           (IsTrue ended → Between IsRead begin left) →
@@ -568,10 +581,10 @@ module _ {State Reason : Type 0} (work : LineWork State Reason) (first : Moment 
           refused bytes text replied.0 waiting left served replied.1.piece replied.1.cut replied.1.pieces_are
           replied.1.line_is replied.2.refused
 
-  -- the job stopped at the next line: there was no memory, or it refuses it
-  pub unreplied : {Job : Type 0} (Did : Deeds Job) (each : Bool) (job job' : Job) (halt : Stop Reason)
+  -- the job stopped at the next line: there was no memory, or it failed, or it refuses it
+  pub unreplied : {Job Failure : Type 0} (Did : Deeds Job) (each : Bool) (job job' : Job) (halt : Stop Reason Failure)
       (now next : Moment State) (held between held' : Option (List ℕ)) (buffer : List ℕ) (one : Line)
-      (made : Result (Unit {0}) (Stop Reason)) (out : List ℕ) → made ≡ Err halt → IsFresh first.lines →
+      (made : Result (Unit {0}) (Stop Reason Failure)) (out : List ℕ) → made ≡ Err halt → IsFresh first.lines →
       IsServed work first now held between buffer →
       Between (Replies work now.state next.state next.lines.ended (Some made) out one) (ahead now.lines now.left)
       (ahead next.lines next.left) → Moves first next → (each ≡ true → buffer ≡ []) →
@@ -581,9 +594,13 @@ module _ {State Reason : Type 0} (work : LineWork State Reason) (first : Moment 
       moves none puts =
       part_before now next held between held' buffer one made out fresh served replied_so moves
       (some_before Did each job job' between held' buffer puts)
+  unreplied Did each job job' (stop.Failed failure) now next held between held' buffer one made out is fresh served
+      replied_so moves none puts =
+      part_before now next held between held' buffer one made out fresh served replied_so moves
+      (some_before Did each job job' between held' buffer puts)
   unreplied Did each job job' (stop.Refused reason) now next held between held' buffer one made out is fresh served
       replied_so moves none puts =
-      stopped_refused now next reason held held' one out fresh
+      stopped_refused _ now next reason held held' one out fresh
       (served_before Did each job job' now held between held' buffer served none puts)
       (subst (λ made. Between (Replies work now.state next.state next.lines.ended (Some made) out one)
       (ahead now.lines now.left) (ahead next.lines next.left)) is replied_so) moves
@@ -591,31 +608,31 @@ module _ {State Reason : Type 0} (work : LineWork State Reason) (first : Moment 
   -- ---- where the replies weren't written whole
 
   -- those that waited when a line stopped the job
-  pub unput_before : {Job : Type 0} (Did : Deeds Job) (each : Bool) (job job' : Job) (fault : PutFault)
-      (now next : Moment State) (held between held' : Option (List ℕ)) (buffer : List ℕ) (one : Line)
-      (made : Result (Unit {0}) (Stop Reason)) (out : List ℕ) → IsFresh first.lines →
+  pub unput_before : {Job Failure : Type 0} (Did : Deeds Job) (each : Bool) (job job' : Job) (So : Type 0)
+      (fault : JobFault Reason Failure) → IsOfPutting So fault → (now next : Moment State) (held between held' : Option (List ℕ)) (buffer : List ℕ) (one : Line)
+      (made : Result (Unit {0}) (Stop Reason Failure)) (out : List ℕ) → IsFresh first.lines →
       IsServed work first now held between buffer →
       Between (Replies work now.state next.state next.lines.ended (Some made) out one) (ahead now.lines now.left)
       (ahead next.lines next.left) → Moves first next → PutsPart Did each job job' between held' buffer →
-      Between (Leaves (output_by work first.state) held held' (of_output fault)) first.left next.left
-  unput_before Did each job job' fault now next held between held' buffer one made out fresh served replied_so moves
+      Between (Leaves (output_by work first.state) held held' fault) first.left next.left
+  unput_before Did each job job' So fault is now next held between held' buffer one made out fresh served replied_so moves
       puts =
-      output_leaves (output_by work first.state) held held' first.left next.left fault
+      output_leaves (output_by work first.state) held held' first.left next.left So fault is
       (part_before now next held between held' buffer one made out fresh served replied_so moves
       (some_part Did each job job' between held' buffer puts))
 
   -- those that waited
-  pub unput : {Job : Type 0} (Did : Deeds Job) (each : Bool) (job job' : Job) (fault : PutFault) (now : Moment State)
-      (held between held' : Option (List ℕ)) (buffer : List ℕ) → IsFresh first.lines →
+  pub unput : {Job Failure : Type 0} (Did : Deeds Job) (each : Bool) (job job' : Job) (So : Type 0)
+      (fault : JobFault Reason Failure) → IsOfPutting So fault → (now : Moment State) (held between held' : Option (List ℕ)) (buffer : List ℕ) → IsFresh first.lines →
       IsServed work first now held between buffer → Moves first now → PutsPart Did each job job' between held' buffer →
-      Between (Leaves (output_by work first.state) held held' (of_output fault)) first.left now.left
-  unput Did each job job' fault now held between held' buffer fresh served moves puts =
-      output_leaves (output_by work first.state) held held' first.left now.left fault
+      Between (Leaves (output_by work first.state) held held' fault) first.left now.left
+  unput Did each job job' So fault is now held between held' buffer fresh served moves puts =
+      output_leaves (output_by work first.state) held held' first.left now.left So fault is
       (part_put now held between held' buffer fresh served moves (some_part Did each job job' between held' buffer puts))
 
   -- none at all: there was no memory to hold one more
-  pub unheld : (now next : Moment State) (held held' : Option (List ℕ)) (buffer : List ℕ) (one : Line)
-      (made : Result (Unit {0}) (Stop Reason)) (out : List ℕ) → IsFresh first.lines →
+  pub unheld : {Failure : Type 0} (now next : Moment State) (held held' : Option (List ℕ)) (buffer : List ℕ) (one : Line)
+      (made : Result (Unit {0}) (Stop Reason Failure)) (out : List ℕ) → IsFresh first.lines →
       IsServed work first now held held' buffer →
       Between (Replies work now.state next.state next.lines.ended (Some made) out one) (ahead now.lines now.left)
       (ahead next.lines next.left) → Moves first next →
@@ -695,16 +712,16 @@ module _ {State Reason : Type 0} (work : LineWork State Reason) (first : Moment 
   }
 
   -- where it failed, or gave too much, what was written is known to the byte
-  pub stopped_read : (now : Moment State) (held held' left : Option (List ℕ)) (fault : IoFault) →
+  pub stopped_read : (Failure : Type 0) (now : Moment State) (held held' left : Option (List ℕ)) (fault : IoFault) →
       IsFresh first.lines → IsServed work first now held held' [] → Moves first now → now.lines.ended ≡ false →
       Stops now.lines.taken (ahead now.lines now.left) now.left left fault →
-      Between (Leaves (output_by work first.state) held held' (of_lines fault)) first.left left
-  stopped_read now held held' left io_fault.Read fresh served moves unended stops =
+      Between (Leaves {Failure = Failure} (output_by work first.state) held held' (of_lines fault)) first.left left
+  stopped_read Failure now held held' left io_fault.Read fresh served moves unended stops =
       between_trans (Served work first now held held' []) Passes (WritesTaken (output_by work first.state) held held')
       first.left (ahead now.lines now.left) left
       (λ bytes text after here passes. taken_exactly now held held' bytes text after here unended passes) served
       (stops.read refl).1
-  stopped_read now held held' left io_fault.TooMuch fresh served moves unended stops =
+  stopped_read Failure now held held' left io_fault.TooMuch fresh served moves unended stops =
       let taken = between_trans (Served work first now held held' []) PassesMore
       (λ bytes after. (last : ℕ) × WritesTaken (output_by work first.state) held held' bytes (last ∷ after))
       first.left (ahead now.lines now.left) left

@@ -9,7 +9,7 @@ use Rattle.pol_io.specs.declared.limits.TheConstants.{LONGEST_INPUT}
 use Rattle.pol_jobs.specs.LineWork.{Output, AcceptsAll, AcceptsLines, line_met}
 use Rattle.pol_jobs.specs.Written.{WritesSome, WritesPart}
 use Rattle.pol_jobs.specs.declared.fault.JobFault.{JobFault}
-use Rattle.pol_jobs.specs.declared.fault.JobFault.TheVariants.{Read, Write, Memory, TooMuch, Refused}
+use Rattle.pol_jobs.specs.declared.fault.JobFault.TheVariants.{Read, Write, Memory, TooMuch, Failed, Refused}
 
 -- a source or a sink at some time: its bytes, where it tells them, and how often it has failed
 abbrev pub edge : Option (List ℕ) → ℕ → Edge
@@ -120,30 +120,33 @@ abbrev pub IsWell : Edge → Edge → Type 0
 IsWell before now = now.faults ≡ before.faults
 
 -- something did
-abbrev pub Failed : Edge → Edge → Type 0
-Failed before now = Rose before.faults now.faults
+abbrev pub DidFail : Edge → Edge → Type 0
+DidFail before now = Rose before.faults now.faults
 
 -- ---- the rows
 
 -- How a job with this output ended, by its source and its sink before and after: for each result what was written, and
 -- what causes it.
-abbrev pub Ends : {Reason : Type 0} → Output Reason → Edge → Edge → Edge → Edge
-    → Result (Unit {0}) (JobFault Reason) → Type 0
+abbrev pub Ends : {Reason Failure : Type 0} → Output Reason → Edge → Edge → Edge → Edge
+    → Result (Unit {0}) (JobFault Reason Failure) → Type 0
 Ends output source source' sink sink' (Ok done) =
     Between (Writes output sink.bytes sink'.bytes) source.bytes source'.bytes
     × IsWell source source' × IsWell sink sink'
 Ends output source source' sink sink' (Err Read) =
     Between (WritesTaken output sink.bytes sink'.bytes) source.bytes source'.bytes
-    × Failed source source' × IsWell sink sink'
+    × DidFail source source' × IsWell sink sink'
 Ends output source source' sink sink' (Err Write) =
     Between (LeavesPart output sink.bytes sink'.bytes) source.bytes source'.bytes
-    × IsWell source source' × Failed sink sink'
+    × IsWell source source' × DidFail sink sink'
 Ends output source source' sink sink' (Err Memory) =
     Between (LeavesPart output sink.bytes sink'.bytes) source.bytes source'.bytes
     × IsWell source source' × IsWell sink sink'
 Ends output source source' sink sink' (Err TooMuch) =
     Between (WritesTakenAndMore output sink.bytes sink'.bytes) source.bytes source'.bytes
     × IsWell source source' × IsWell sink sink' × IsTooMuch source.bytes
+Ends output source source' sink sink' (Err (Failed failure)) =
+    Between (LeavesPart output sink.bytes sink'.bytes) source.bytes source'.bytes
+    × IsWell source source' × IsWell sink sink'
 Ends output source source' sink sink' (Err (Refused reason)) =
     Between (IsRefused output reason sink.bytes sink'.bytes) source.bytes source'.bytes
     × IsWell source source' × IsWell sink sink'
@@ -151,16 +154,18 @@ Ends output source source' sink sink' (Err (Refused reason)) =
 -- ---- what the rows come to where nothing fails
 
 -- the result is the one that is due: done, where nothing of the input is refused, a refusal where something is; or
--- there was no memory
-abbrev pub IsDue : {Reason : Type 0} → Output Reason → List ℕ → Result (Unit {0}) (JobFault Reason) → Type 0
+-- there was no memory, or what the job works with failed
+abbrev pub IsDue : {Reason Failure : Type 0} → Output Reason → List ℕ → Result (Unit {0}) (JobFault Reason Failure)
+    → Type 0
 IsDue output bytes (Ok done) = AcceptsAll output bytes
 IsDue output bytes (Err Memory) = Unit {0}
+IsDue output bytes (Err (Failed failure)) = Unit {0}
 IsDue output bytes (Err (Refused reason)) = ¬ AcceptsAll output bytes
 IsDue output bytes (Err _) = ⊥
 
 -- with no fault of source or sink, and an input that fits, the result is the one that is due
-abbrev pub Completes : {Reason : Type 0} → Output Reason → Edge → Edge → Edge → Edge
-    → Result (Unit {0}) (JobFault Reason) → Type 0
+abbrev pub Completes : {Reason Failure : Type 0} → Output Reason → Edge → Edge → Edge → Edge
+    → Result (Unit {0}) (JobFault Reason Failure) → Type 0
 Completes output source source' sink sink' result =
-    ¬ Failed source source' → ¬ Failed sink sink'
+    ¬ DidFail source source' → ¬ DidFail sink sink'
     → Between (λ bytes left. length bytes ≤ LONGEST_INPUT → IsDue output bytes result) source.bytes source'.bytes

@@ -31,7 +31,17 @@ replies work state [] = []
 replies work state (piece ∷ pieces) =
     work.reply state (line_met piece) ++ replies work (work.after state (line_met piece)) pieces
 
--- what it knows after them
+-- the same of lines as it meets them
+abbrev pub replies_to : {State Reason : Type 0} → LineWork State Reason → State → List Line → List ℕ
+replies_to work state [] = []
+replies_to work state (line ∷ lines) = work.reply state line ++ replies_to work (work.after state line) lines
+
+-- what it knows after these
+abbrev pub after_each : {State Reason : Type 0} → LineWork State Reason → State → List Line → State
+after_each work state [] = state
+after_each work state (line ∷ lines) = after_each work (work.after state line) lines
+
+-- what it knows after the lines of these pieces
 abbrev pub after_all : {State Reason : Type 0} → LineWork State Reason → State → List (List ℕ) → State
 after_all work state [] = state
 after_all work state (piece ∷ pieces) = after_all work (work.after state (line_met piece)) pieces

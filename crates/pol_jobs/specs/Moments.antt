@@ -6,12 +6,12 @@ use Rattle.pol_io.specs.Known.{Between, Counts}
 use Rattle.pol_io.specs.LinesState.{LinesState, ahead, given}
 use Rattle.pol_io.specs.Pieces.{pieces, IsFirstLine, IsDone}
 use Rattle.pol_io.specs.declared.limits.TheConstants.{LONGEST_INPUT}
-use Rattle.pol_jobs.specs.LineWork.{Line, LineWork, Output, Accepts, AcceptsLines, line_met, met, replies, after_all, output_by}
+use Rattle.pol_jobs.specs.LineWork.{Line, LineWork, Output, Accepts, AcceptsLines, line_met, met, replies, replies_to, after_all, after_each, output_by}
 use Rattle.pol_jobs.specs.Ends.{IsRead, WritesTaken, WritesTakenAndMore, LeavesPart, IsRefused}
 use Rattle.pol_jobs.specs.Faults.{RefusedFor}
 use Rattle.pol_jobs.specs.Settling.{Deeds, Meets}
 use Rattle.pol_jobs.specs.declared.fault.JobFault.{JobFault}
-use Rattle.pol_jobs.specs.declared.fault.JobFault.TheVariants.{Read, Write, Memory, TooMuch, Refused}
+use Rattle.pol_jobs.specs.declared.fault.JobFault.TheVariants.{Read, Write, Memory, TooMuch, Failed, Refused}
 use Rattle.pol_jobs.specs.declared.stop.Stop.{Stop}
 
 -- a job between two lines: what it knows, how far the lines are read, and what the source has left
@@ -78,6 +78,16 @@ abbrev pub IsServed : {State Reason : Type 0} → LineWork State Reason → Mome
 IsServed work first now held held' buffer =
     Between (Served work first now held held' buffer) first.left (ahead now.lines now.left)
 
+-- Since the first state lines were replied to, whatever the source tells of them: the replies to those that are settled
+-- were written, and a buffer holds the replies to those that wait behind them.
+pub record HasReplied {State Reason : Type 0} (work : LineWork State Reason) (start now : State)
+    (held held' : Option (List ℕ)) (buffer : List ℕ) : Type 0 where
+  pub settled : List Line
+  pub waiting : List Line
+  pub state_is : now ≡ after_each work start (settled ++ waiting)
+  pub written : Appends held held' (replies_to work start settled)
+  pub held_back : buffer ≡ replies_to work (after_each work start settled) waiting
+
 -- the input was read to its end, its lines were replied to, and this is what the job knows after them
 pub record Replied {State Reason : Type 0} (work : LineWork State Reason) (start state : State)
     (held held' : Option (List ℕ)) (bytes left : List ℕ) : Type 0 where
@@ -87,42 +97,50 @@ pub record Replied {State Reason : Type 0} (work : LineWork State Reason) (start
   pub accepted : AcceptsLines (output_by work start) bytes
 
 -- a line was met: this is the reply to it, and this is known after it; or the job stopped there
-pub record Met {State Reason : Type 0} (work : LineWork State Reason) (before now : State)
-    (made : Result (Unit {0}) (Stop Reason)) (reply : List ℕ) (line : Line) : Type 0 where
+pub record Met {State Reason Failure : Type 0} (work : LineWork State Reason) (before now : State)
+    (made : Result (Unit {0}) (Stop Reason Failure)) (reply : List ℕ) (line : Line) : Type 0 where
   pub said : OnOk made (reply ≡ work.reply before line)
   pub after : OnOk made (now ≡ work.after before line)
   pub accepted : OnOk made (Accepts work before line)
   pub refused : IfErr made (RefusedFor (work.Refuses before line))
 
 -- the next line was met, and it is this one; or the end
-abbrev pub Replies : {State Reason : Type 0} → LineWork State Reason → State → State → Bool
-    → Option (Result (Unit {0}) (Stop Reason)) → List ℕ → Line → List ℕ → List ℕ → Type 0
+abbrev pub Replies : {State Reason Failure : Type 0} → LineWork State Reason → State → State → Bool
+    → Option (Result (Unit {0}) (Stop Reason Failure)) → List ℕ → Line → List ℕ → List ℕ → Type 0
 Replies work before now ended None reply next text rest = (text ≡ []) × (rest ≡ []) × (now ≡ before)
 Replies work before now ended (Some made) reply next text rest =
     (line : List ℕ) × IsFirstLine ended line text rest × Met work before now made reply (met line) × (next ≡ met line)
 
 -- what else the job did with the next line; nothing at the end
-abbrev pub DidNext : {Job Reason : Type 0} → Deeds Job → Job → Job → Option (Result (Unit {0}) (Stop Reason)) → Line
+abbrev pub DidNext : {Job Reason Failure : Type 0} → Deeds Job → Job → Job → Option (Result (Unit {0}) (Stop Reason Failure)) → Line
     → Type 0
 DidNext Did job job' None next = job' ≡ job
 DidNext Did job job' (Some made) next = Meets Did job job' next (is_ok made)
 
+-- the next line was met, whatever the source tells; nothing at the end
+abbrev pub MetNext : {State Reason Failure : Type 0} → LineWork State Reason → State → State
+    → Option (Result (Unit {0}) (Stop Reason Failure)) → List ℕ → Line → Type 0
+MetNext work before now None reply next = now ≡ before
+MetNext work before now (Some made) reply next = Met work before now made reply next
+
 -- one more line is read and replied to, or the end is seen
-pub record IsNext {State Reason Job : Type 0} (work : LineWork State Reason) (Did : Deeds Job) (job job' : Job)
-    (before now : Moment State) (made : Option (Result (Unit {0}) (Stop Reason))) (reply : List ℕ) : Type 0 where
+pub record IsNext {State Reason Failure Job : Type 0} (work : LineWork State Reason) (Did : Deeds Job) (job job' : Job)
+    (before now : Moment State) (made : Option (Result (Unit {0}) (Stop Reason Failure))) (reply : List ℕ) : Type 0 where
   pub next : Line
   pub replies : Between (Replies work before.state now.state now.lines.ended made reply next)
       (ahead before.lines before.left) (ahead now.lines now.left)
+  pub met : MetNext work before.state now.state made reply next
   pub did : DidNext Did job job' made next
   pub gives : OnSome made (given before.lines < given now.lines)
   pub moves : Moves before now
   pub ended : IfNone made (IsTrue now.lines.ended)
 
 -- what was written where a fault ended the job
-abbrev pub Leaves : {Reason : Type 0} → Output Reason → Option (List ℕ) → Option (List ℕ) → JobFault Reason → List ℕ
-    → List ℕ → Type 0
+abbrev pub Leaves : {Reason Failure : Type 0} → Output Reason → Option (List ℕ) → Option (List ℕ)
+    → JobFault Reason Failure → List ℕ → List ℕ → Type 0
 Leaves output held held' Read bytes left = WritesTaken output held held' bytes left
 Leaves output held held' TooMuch bytes left = WritesTakenAndMore output held held' bytes left
 Leaves output held held' Write bytes left = LeavesPart output held held' bytes left
 Leaves output held held' Memory bytes left = LeavesPart output held held' bytes left
+Leaves output held held' (Failed failure) bytes left = LeavesPart output held held' bytes left
 Leaves output held held' (Refused reason) bytes left = IsRefused output reason held held' bytes left

@@ -2,7 +2,7 @@
 ghost use Rattle.std.specs.Prelude.{◌≡◌, ◌++◌, ◌∷◌, [], List, Bool, true, false, IfErr, OnOk, OnErr};
 ghost use Rattle.std.specs.Result.{is_ok};
 ghost use Rattle.pol_io.specs.Causes.{HasCauseOf};
-ghost use Rattle.pol_jobs.specs.Faults.{RefusedFor};
+ghost use Rattle.pol_jobs.specs.Faults.{FailedSo, RefusedFor};
 ghost use Rattle.pol_jobs.specs.InputLines.{plain_line};
 ghost use Rattle.pol_jobs.specs.LineWork.{Line, LineWork, Accepts, AcceptsEnd};
 ghost use Rattle.pol_jobs.specs.Written.{Closes, ClosesPart};
@@ -10,7 +10,6 @@ ghost use Rattle.pol_jobs.specs.Written.{Closes, ClosesPart};
 use crate::output::PutFault;
 use crate::stop::Stop;
 use pol_io::Sink;
-use std::alloc::AllocError;
 
 /// A line of the input as a job meets it.
 #[derive(Clone, Copy)]
@@ -29,6 +28,9 @@ pub enum InputLine<'a> {
 pub trait LineJob {
     /// Why a job of this kind refuses its input.
     type Refusal: Drop;
+
+    /// What may fail a job of this kind beside memory, its source and its sink: a disk; `Infallible` where nothing may.
+    type Failure: Drop;
 
     /// Whether each line is settled, and its reply written, before the next one is met, also where more lines stand there
     /// already.
@@ -56,20 +58,30 @@ pub trait LineJob {
     /// them, and whether it replied to the last of these too, or stopped there.
     ghost Did: { Self → Self → List Line → List Line → Bool → Type 0 };
 
+    /// What is so of a job that failed.
+    ghost HasFailed: { Self → Type 0 };
+
     /// Puts what it replies to a line behind what a buffer holds: an output line, or nothing.
-    fn reply(&mut self, line: InputLine<'_>, out: &mut Vec<u8>) -> Result<(), Stop<Self::Refusal>>
+    fn reply(
+        &mut self,
+        line: InputLine<'_>,
+        out: &mut Vec<u8>,
+    ) -> Result<(), Stop<Self::Refusal, Self::Failure>>
         ensures text { OnOk result
             (out.new.items ≡ out.old.items ++ work.reply (state self.old) (plain_line line.entry)) }
         ensures after { OnOk result (state self.new ≡ work.after (state self.old) (plain_line line.entry)) }
         ensures accepted { OnOk result (Accepts work (state self.old) (plain_line line.entry)) }
         ensures refused { IfErr result (RefusedFor (work.Refuses (state self.old) (plain_line line.entry))) }
+        ensures failed { IfErr result (FailedSo (HasFailed self.new)) }
         ensures did { (first : Self) (settled waiting : List Line) → Did first self.old settled waiting true
             → Did first self.new settled (waiting ++ plain_line line.entry ∷ []) (is_ok result) };
 
     /// Makes lasting what was done for the lines so far, before their replies are handed on. Of a job that doesn't
     /// settle each line this is asked also where it stopped at a line: then the lines before that one are settled.
-    fn settle(&mut self) -> Result<(), AllocError>
+    fn settle(&mut self) -> Result<(), Self::Failure>
         ensures kept { state self.new ≡ state self.old }
+        ensures has_failed { OnErr result (HasFailed self.new) }
+        ensures failed_still { HasFailed self.old → HasFailed self.new }
         ensures settled { OnOk result ((first : Self) (settled waiting : List Line) → Did first self.old settled waiting true
             → Did first self.new (settled ++ waiting) [] true) }
         ensures failed { OnErr result ((first : Self) (settled waiting : List Line) → Did first self.old settled waiting true
@@ -84,10 +96,11 @@ pub trait LineJob {
             → Did first self.new settled (waiting ++ last ∷ []) false) };
 
     /// Sees the end of the input, which it may refuse as a whole.
-    fn end(&mut self) -> Result<(), Stop<Self::Refusal>>
+    fn end(&mut self) -> Result<(), Stop<Self::Refusal, Self::Failure>>
         ensures kept { OnOk result (state self.new ≡ state self.old) }
         ensures accepted { OnOk result (AcceptsEnd work (state self.old)) }
         ensures refused { IfErr result (RefusedFor (work.RefusesEnd (state self.old))) }
+        ensures failed { IfErr result (FailedSo (HasFailed self.new)) }
         ensures did { (first : Self) (settled : List Line) → Did first self.old settled [] true
             → Did first self.new settled [] true };
 

@@ -1,18 +1,19 @@
 //! Doing a job line by line.
-ghost use Rattle.std.specs.Prelude.{◌≡◌, [], false, IsTrue, IfOk, IfErr, OnOk, OnErr};
+ghost use Rattle.std.specs.Prelude.{◌≡◌, [], false, IsTrue, IfOk, IfErr, IfSome, OnOk, OnErr};
 ghost use Rattle.pol_io.specs.Causes.{HasCauseOf};
 ghost use Rattle.pol_io.specs.Faults.{Stops};
 ghost use Rattle.pol_io.specs.Known.{Between};
 ghost use Rattle.pol_io.specs.LinesState.{ahead, needs_no_source};
-ghost use Rattle.pol_jobs.specs.Deeds.{DidAll, DidSome};
+ghost use Rattle.pol_jobs.specs.Deeds.{DidAll, DidSome, RefusesBehind};
 ghost use Rattle.pol_jobs.specs.Ends.{Completes, Ends, IsTooMuch, Writes, edge};
+ghost use Rattle.pol_jobs.specs.Faults.{FailedSo, IsOfPutting, JobFailedSo, JobRefusedSo};
 ghost use Rattle.pol_jobs.specs.LineWork.{AcceptsEnd, KnowsAfter, output_by};
-ghost use Rattle.pol_jobs.specs.Moments.{moment, IsFresh, IsNext, Leaves, Replied};
+ghost use Rattle.pol_jobs.specs.Moments.{moment, HasReplied, IsFresh, IsNext, Leaves, Replied};
 ghost use Rattle.pol_jobs.specs.Settling.{Puts, PutsBefore, PutsDue, PutsPart};
 
 use crate::fault::JobFault;
 use crate::line_job::{InputLine, LineJob};
-use crate::output::{PutFault, hand_on, put};
+use crate::output::{hand_on, put};
 use crate::stop::Stop;
 use pol_io::{IoFault, Line, Lines, Sink, Source};
 use std::alloc::Global;
@@ -27,7 +28,7 @@ fn next_reply<S: Source, J: LineJob>(
     job: &mut J,
     source: &mut S,
     out: &mut Vec<u8>,
-) -> Result<Option<Result<(), Stop<J::Refusal>>>, IoFault>
+) -> Result<Option<Result<(), Stop<J::Refusal, J::Failure>>>, IoFault>
     requires sound { IsTrue lines.old.sound }
     requires empty { out.old.items ≡ [] }
     ensures next { IfOk result (λ made. IsNext J.work J.Did job.old job.new
@@ -38,6 +39,7 @@ fn next_reply<S: Source, J: LineJob>(
     ensures open_end { OnErr result (lines.old.ended ≡ false) }
     ensures unasked { IsTrue (needs_no_source lines.old) → source.new ≡ source.old }
     ensures idle { OnErr result (job.new ≡ job.old) }
+    ensures failed { IfOk result (λ made. IfSome made (λ replied. IfErr replied (FailedSo (J.HasFailed job.new)))) }
     ensures cause { HasCauseOf IoFault.Read (S.faults source.old) (S.faults source.new) result }
 {
     match lines.next_line(source) {
@@ -53,16 +55,20 @@ fn put_replies<K: Sink, J: LineJob>(
     job: &mut J,
     sink: &mut K,
     replies: &mut Vec<u8>,
-) -> Result<(), PutFault>
+) -> Result<(), JobFault<J::Refusal, J::Failure>>
     ensures kept { J.state job.new ≡ J.state job.old }
+    ensures failed { J.HasFailed job.old → J.HasFailed job.new }
     ensures put { OnOk result (Puts J.Did J.SETTLES_EACH job.old job.new
         (K.held sink.old) (K.held sink.new) replies.old.items) }
     ensures empty { OnOk result (replies.new.items ≡ []) }
     ensures part { OnErr result (PutsPart J.Did J.SETTLES_EACH job.old job.new
         (K.held sink.old) (K.held sink.new) replies.old.items) }
-    ensures cause { HasCauseOf PutFault.Write (K.faults sink.old) (K.faults sink.new) result }
+    ensures fault { IfErr result (IsOfPutting (J.HasFailed job.new)) }
+    ensures cause { HasCauseOf JobFault.Write (K.faults sink.old) (K.faults sink.new) result }
 {
-    job.settle()?;
+    if let Err(failure) = job.settle() {
+        return Err(JobFault::Failed(failure));
+    }
     put(sink, replies)?;
     replies.clear();
     Ok(())
@@ -76,14 +82,15 @@ fn put_due<K: Sink, J: LineJob>(
     job: &mut J,
     sink: &mut K,
     replies: &mut Vec<u8>,
-) -> Result<(), PutFault>
+) -> Result<(), JobFault<J::Refusal, J::Failure>>
     ensures same { lines.new ≡ lines.old }
     ensures kept { J.state job.new ≡ J.state job.old }
     ensures put { OnOk result (PutsDue J.Did J.SETTLES_EACH lines.old job.old job.new
         (K.held sink.old) (K.held sink.new) replies.old.items replies.new.items) }
     ensures part { OnErr result (PutsPart J.Did J.SETTLES_EACH job.old job.new
         (K.held sink.old) (K.held sink.new) replies.old.items) }
-    ensures cause { HasCauseOf PutFault.Write (K.faults sink.old) (K.faults sink.new) result }
+    ensures fault { IfErr result (IsOfPutting (J.HasFailed job.new)) }
+    ensures cause { HasCauseOf JobFault.Write (K.faults sink.old) (K.faults sink.new) result }
 {
     let goes_on = lines.has_next();
     if goes_on && !J::SETTLES_EACH && replies.len() < LONGEST_GROUP {
@@ -93,7 +100,8 @@ fn put_due<K: Sink, J: LineJob>(
     if goes_on && !J::HANDS_ON_EACH {
         return Ok(());
     }
-    hand_on(sink)
+    hand_on(sink)?;
+    Ok(())
 }
 
 // Where the job stopped at a line, puts out the replies to the lines before it. A job that settles each line has no
@@ -102,12 +110,14 @@ fn put_before_stop<K: Sink, J: LineJob>(
     job: &mut J,
     sink: &mut K,
     replies: &mut Vec<u8>,
-) -> Result<(), PutFault>
+) -> Result<(), JobFault<J::Refusal, J::Failure>>
+    ensures failed { J.HasFailed job.old → J.HasFailed job.new }
     ensures put { OnOk result (PutsBefore J.Did J.SETTLES_EACH job.old job.new
         (K.held sink.old) (K.held sink.new) replies.old.items) }
     ensures part { OnErr result ((J.SETTLES_EACH ≡ false) × PutsPart J.Did J.SETTLES_EACH job.old job.new
         (K.held sink.old) (K.held sink.new) replies.old.items) }
-    ensures cause { HasCauseOf PutFault.Write (K.faults sink.old) (K.faults sink.new) result }
+    ensures fault { IfErr result (IsOfPutting (J.HasFailed job.new)) }
+    ensures cause { HasCauseOf JobFault.Write (K.faults sink.old) (K.faults sink.new) result }
 {
     if J::SETTLES_EACH {
         return Ok(());
@@ -122,11 +132,13 @@ fn reply_to_all<S: Source, K: Sink, J: LineJob>(
     job: &mut J,
     source: &mut S,
     sink: &mut K,
-) -> Result<(), JobFault<J::Refusal>>
+) -> Result<(), JobFault<J::Refusal, J::Failure>>
     requires { IsFresh lines.old }
     ensures replied { OnOk result (Between
         (Replied J.work (J.state job.old) (J.state job.new) (K.held sink.old) (K.held sink.new))
         (S.left source.old) (S.left source.new)) }
+    ensures replied_lines { OnOk result (HasReplied J.work (J.state job.old) (J.state job.new)
+        (K.held sink.old) (K.held sink.new) []) }
     ensures leaves { IfErr result (λ fault. Between
         (Leaves (output_by J.work (J.state job.old)) (K.held sink.old) (K.held sink.new) fault)
         (S.left source.old) (S.left source.new)) }
@@ -136,6 +148,9 @@ fn reply_to_all<S: Source, K: Sink, J: LineJob>(
     ensures too_much { IfErr result (λ fault. fault ≡ JobFault.TooMuch → IsTooMuch (S.left source.old)) }
     ensures read_cause { HasCauseOf JobFault.Read (S.faults source.old) (S.faults source.new) result }
     ensures write_cause { HasCauseOf JobFault.Write (K.faults sink.old) (K.faults sink.new) result }
+    ensures failed { IfErr result (JobFailedSo (J.HasFailed job.new)) }
+    ensures refused { IfErr result (JobRefusedSo (RefusesBehind J.work (J.state job.old)
+        (K.held sink.old) (K.held sink.new))) }
 {
     let mut out = Vec::new(alloc);
     let mut replies = Vec::new(alloc);
@@ -158,7 +173,7 @@ fn reply_and_close<S: Source, K: Sink, J: LineJob>(
     job: &mut J,
     source: &mut S,
     sink: &mut K,
-) -> Result<(), JobFault<J::Refusal>>
+) -> Result<(), JobFault<J::Refusal, J::Failure>>
     ensures output { OnOk result (Between
         (Writes (output_by J.work (J.state job.old)) (K.held sink.old) (K.held sink.new))
         (S.left source.old) (S.left source.new)) }
@@ -174,6 +189,9 @@ fn reply_and_close<S: Source, K: Sink, J: LineJob>(
     ensures too_much { IfErr result (λ fault. fault ≡ JobFault.TooMuch → IsTooMuch (S.left source.old)) }
     ensures read_cause { HasCauseOf JobFault.Read (S.faults source.old) (S.faults source.new) result }
     ensures write_cause { HasCauseOf JobFault.Write (K.faults sink.old) (K.faults sink.new) result }
+    ensures failed { IfErr result (JobFailedSo (J.HasFailed job.new)) }
+    ensures refused { IfErr result (JobRefusedSo (RefusesBehind J.work (J.state job.old)
+        (K.held sink.old) (K.held sink.new))) }
 {
     let mut lines = Lines::new(alloc)?;
     reply_to_all(alloc, &mut lines, job, source, sink)?;
@@ -185,14 +203,15 @@ fn reply_and_close<S: Source, K: Sink, J: LineJob>(
 /// Does the job: replies to each line of the source, and then closes the output. How it ends is one row for each
 /// result; and where nothing fails, an input that fits is done or refused as it should be, unless there was no memory.
 /// What else the job did, it did and settled with all lines of the input, or with the first ones; of these some may wait
-/// unsettled behind the others, and no more was written than the replies to the settled ones.
+/// unsettled behind the others, and no more was written than the replies to the settled ones. `Failed` comes only of a
+/// job that failed, and what is so of such a job is so of this one then.
 #[tactic(auto, using(crate::proofs::Ending::work_ends))]
 pub fn work<S: Source, K: Sink, J: LineJob>(
     alloc: Global,
     job: &mut J,
     source: &mut S,
     sink: &mut K,
-) -> Result<(), JobFault<J::Refusal>>
+) -> Result<(), JobFault<J::Refusal, J::Failure>>
     ensures ends { Ends (output_by J.work (J.state job.old))
         (edge (S.left source.old) (S.faults source.old)) (edge (S.left source.new) (S.faults source.new))
         (edge (K.held sink.old) (K.faults sink.old)) (edge (K.held sink.new) (K.faults sink.new)) result }
@@ -205,6 +224,9 @@ pub fn work<S: Source, K: Sink, J: LineJob>(
     ensures did_all { OnOk result (DidAll (J.Did job.old job.new) (S.left source.old)) }
     ensures did_some { OnErr result (DidSome J.work (J.state job.old) (J.Did job.old job.new)
         (K.held sink.old) (K.held sink.new) (S.left source.old)) }
+    ensures failed { IfErr result (JobFailedSo (J.HasFailed job.new)) }
+    ensures refused { IfErr result (JobRefusedSo (RefusesBehind J.work (J.state job.old)
+        (K.held sink.old) (K.held sink.new))) }
 {
     reply_and_close(alloc, job, source, sink)
 }

@@ -59,6 +59,8 @@ impl Migrating {
 impl LineJob for Migrating {
     type Refusal = Infallible;
 
+    type Failure = Infallible;
+
     const SETTLES_EACH: bool = true;
 
     const HANDS_ON_EACH: bool = false;
@@ -80,16 +82,22 @@ impl LineJob for Migrating {
 
     ghost did_nothing = { λ _. tt };
 
-    fn reply(&mut self, line: InputLine<'_>, out: &mut Vec<u8>) -> Result<(), Stop<Infallible>> {
+    ghost HasFailed = { λ _. ⊤ };
+
+    fn reply(
+        &mut self,
+        line: InputLine<'_>,
+        out: &mut Vec<u8>,
+    ) -> Result<(), Stop<Infallible, Infallible>> {
         put_line(self.alloc, line, out)?;
         Ok(())
     }
 
-    fn settle(&mut self) -> Result<(), AllocError> {
+    fn settle(&mut self) -> Result<(), Infallible> {
         Ok(())
     }
 
-    fn end(&mut self) -> Result<(), Stop<Infallible>> {
+    fn end(&mut self) -> Result<(), Stop<Infallible, Infallible>> {
         Ok(())
     }
 

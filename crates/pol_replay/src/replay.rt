@@ -82,6 +82,8 @@ impl Replay {
 impl LineJob for Replay {
     type Refusal = Infallible;
 
+    type Failure = Infallible;
+
     const SETTLES_EACH: bool = true;
 
     const HANDS_ON_EACH: bool = false;
@@ -105,17 +107,23 @@ impl LineJob for Replay {
 
     ghost did_nothing = { λ _. tt };
 
-    fn reply(&mut self, line: InputLine<'_>, out: &mut Vec<u8>) -> Result<(), Stop<Infallible>> {
+    ghost HasFailed = { λ _. ⊤ };
+
+    fn reply(
+        &mut self,
+        line: InputLine<'_>,
+        out: &mut Vec<u8>,
+    ) -> Result<(), Stop<Infallible, Infallible>> {
         let meaning = read_meaning::<JournalLines>(self.alloc, line)?;
         answer(self.alloc, &mut self.plant, meaning, out)?;
         Ok(())
     }
 
-    fn settle(&mut self) -> Result<(), AllocError> {
+    fn settle(&mut self) -> Result<(), Infallible> {
         Ok(())
     }
 
-    fn end(&mut self) -> Result<(), Stop<Infallible>> {
+    fn end(&mut self) -> Result<(), Stop<Infallible, Infallible>> {
         Ok(())
     }
 

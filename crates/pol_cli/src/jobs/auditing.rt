@@ -44,6 +44,8 @@ impl Auditing {
 impl LineJob for Auditing {
     type Refusal = Infallible;
 
+    type Failure = Infallible;
+
     const SETTLES_EACH: bool = true;
 
     const HANDS_ON_EACH: bool = false;
@@ -67,8 +69,14 @@ impl LineJob for Auditing {
 
     ghost did_nothing = { λ _. tt };
 
+    ghost HasFailed = { λ _. ⊤ };
+
     #[tactic(auto, using(crate::proofs::Auditing::blank_read, crate::proofs::Auditing::filled_read))]
-    fn reply(&mut self, line: InputLine<'_>, _out: &mut Vec<u8>) -> Result<(), Stop<Infallible>> {
+    fn reply(
+        &mut self,
+        line: InputLine<'_>,
+        _out: &mut Vec<u8>,
+    ) -> Result<(), Stop<Infallible, Infallible>> {
         match line {
             InputLine::Text(text) if is_blank(text) => {}
             InputLine::Text(text) => self.audit.read_line(text)?,
@@ -77,11 +85,11 @@ impl LineJob for Auditing {
         Ok(())
     }
 
-    fn settle(&mut self) -> Result<(), AllocError> {
+    fn settle(&mut self) -> Result<(), Infallible> {
         Ok(())
     }
 
-    fn end(&mut self) -> Result<(), Stop<Infallible>> {
+    fn end(&mut self) -> Result<(), Stop<Infallible, Infallible>> {
         Ok(())
     }
 

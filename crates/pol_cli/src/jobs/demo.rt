@@ -14,7 +14,7 @@ pub fn demonstrate<K: Sink>(
     alloc: Global,
     seed: u32,
     sink: &mut K,
-) -> Result<(), JobFault<Infallible>>
+) -> Result<(), JobFault<Infallible, Infallible>>
     ensures { Ends (demonstrated seed) no_input no_input
         (edge (K.held sink.old) (K.faults sink.old)) (edge (K.held sink.new) (K.faults sink.new)) result }
 {

@@ -124,7 +124,7 @@ fn read_and_run<R: Threads + Wait + Sync, S: Source, K: Sink, C: Clock + Send, G
     sink: &mut K,
     clock: C,
     gate: &G,
-) -> Result<(), JobFault<JsonFault>>
+) -> Result<(), JobFault<JsonFault, Infallible>>
     ensures ends { Ends planted
         (edge (S.left source.old) (S.faults source.old)) (edge (S.left source.new) (S.faults source.new))
         (edge (K.held sink.old) (K.faults sink.old)) (edge (K.held sink.new) (K.faults sink.new)) result }

@@ -16,6 +16,7 @@ use pol_jobs::{InputLine, JobFault, LineJob, PutFault, Stop, work};
 use pol_site::Site;
 use site_json::read_site;
 use std::alloc::{AllocError, Global};
+use std::convert::Infallible;
 use std::mem;
 
 /// What the lines of a site text have told so far.
@@ -112,6 +113,8 @@ impl SiteText {
 impl LineJob for SiteText {
     type Refusal = JsonFault;
 
+    type Failure = Infallible;
+
     const SETTLES_EACH: bool = true;
 
     const HANDS_ON_EACH: bool = false;
@@ -133,8 +136,14 @@ impl LineJob for SiteText {
 
     ghost did_nothing = { λ _. tt };
 
+    ghost HasFailed = { λ _. ⊤ };
+
     #[tactic(auto, using(crate::proofs::SiteTexts::after_blank, crate::proofs::SiteTexts::after_some))]
-    fn reply(&mut self, line: InputLine<'_>, _out: &mut Vec<u8>) -> Result<(), Stop<JsonFault>> {
+    fn reply(
+        &mut self,
+        line: InputLine<'_>,
+        _out: &mut Vec<u8>,
+    ) -> Result<(), Stop<JsonFault, Infallible>> {
         match line {
             InputLine::Text(text) if is_blank(text) => {}
             InputLine::Text(text) => self.lines = self.lines.after(self.alloc, text)?,
@@ -143,12 +152,12 @@ impl LineJob for SiteText {
         Ok(())
     }
 
-    fn settle(&mut self) -> Result<(), AllocError> {
+    fn settle(&mut self) -> Result<(), Infallible> {
         Ok(())
     }
 
     #[tactic(auto, using(crate::proofs::SiteTexts::told_well, crate::proofs::SiteTexts::told_accepted))]
-    fn end(&mut self) -> Result<(), Stop<JsonFault>> {
+    fn end(&mut self) -> Result<(), Stop<JsonFault, Infallible>> {
         match mem::replace(&mut self.lines, SiteLines::Nothing).told(self.alloc) {
             Ok(site) => {
                 self.lines = SiteLines::Site(site);
@@ -180,7 +189,10 @@ impl Sink for Nowhere {
 }
 
 /// The site that the source says, which is read to its end. A text that says none is refused.
-pub fn read_text<S: Source>(alloc: Global, source: &mut S) -> Result<Site, JobFault<JsonFault>>
+pub fn read_text<S: Source>(
+    alloc: Global,
+    source: &mut S,
+) -> Result<Site, JobFault<JsonFault, Infallible>>
     ensures says { IfOk result (λ site.
         Between (Says (Ok (plain_site site))) (S.left source.old) (S.left source.new)) }
     ensures well { OnOk result (S.faults source.new ≡ S.faults source.old) }
