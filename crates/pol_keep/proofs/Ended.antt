@@ -13,6 +13,7 @@ use Rattle.pol_io.specs.Edge.{Edge}
 use Rattle.pol_io.specs.Pieces.{pieces}
 use Rattle.pol_jobs.specs.Deeds.{DidAll, DidSome}
 use Rattle.pol_jobs.specs.Ends.{Ends}
+use Rattle.pol_jobs.specs.Faults.{JobFailedSo}
 use Rattle.pol_jobs.specs.LineWork.{Line, LineWork, Output}
 use Rattle.pol_jobs.specs.declared.fault.JobFault.{JobFault}
 use Rattle.pol_jobs.proofs.Deeds.{all_some}
@@ -30,6 +31,7 @@ use Rattle.pol_keep.specs.Keeping.{IsKept, Telling, Tells}
 use Rattle.pol_keep.specs.Kept.{IsFaultOf, IsUnopened, KeepEnds, Keeps, StandsForAnswered, StandsForMore, answers_with}
 use Rattle.pol_keep.specs.Kept.{events_with, job_result}
 use Rattle.pol_keep.specs.Leaving.{ReadsAs}
+use Rattle.pol_keep.specs.declared.fault.DiskFailed.{DiskFailed}
 use Rattle.pol_keep.specs.declared.fault.KeepFault.{KeepFault}
 use Rattle.pol_keep.specs.declared.fault.KeepFault.TheVariants.{Read, Write, Memory, TooMuch, Disk, NotAStore}
 use Rattle.pol_keep.proofs.Orderly.{sound_run}
@@ -44,10 +46,23 @@ did_either work start Did held held' input (Ok done) all some = all_some work st
 did_either work start Did held held' input (Err fault) all some = some
 
 -- a job that is done is done over its lines too
-pub when_done : (P : Type 0) (result : Result (Unit {0}) KeepFault) (done : Result (Unit {0}) (JobFault Infallible)) →
+pub when_done : (P : Type 0) (result : Result (Unit {0}) KeepFault) (done : Result (Unit {0}) (JobFault Infallible DiskFailed)) →
     job_result result ≡ done → OnOk done P → OnOk result P
 when_done P (Ok all) done is known = subst (λ done. OnOk done P) (sym is) known
 when_done P (Err fault) done is known = tt
+
+-- a job whose disk failed, failed over its lines too
+pub when_disk : (Closed P : Type 0) → (Closed → P) → (result : Result (Unit {0}) KeepFault)
+    (done : Result (Unit {0}) (JobFault Infallible DiskFailed)) → job_result result ≡ done →
+    IfErr done (JobFailedSo Closed) → IfErr result (λ fault. fault ≡ Disk → P)
+when_disk Closed P holds (Ok all) done is known = tt
+when_disk Closed P holds (Err Read) done is known = λ same. cc
+when_disk Closed P holds (Err Write) done is known = λ same. cc
+when_disk Closed P holds (Err Memory) done is known = λ same. cc
+when_disk Closed P holds (Err TooMuch) done is known = λ same. cc
+when_disk Closed P holds (Err Disk) done is known =
+    λ same. holds (subst (λ done. IfErr done (JobFailedSo Closed)) (sym is) known)
+when_disk Closed P holds (Err (NotAStore place)) done is known = λ same. cc
 
 -- what holds anyway holds where it is done
 pub on_ok_holds : {P E : Type 0} (result : Result (Unit {0}) E) → P → OnOk result P
@@ -56,7 +71,7 @@ on_ok_holds (Err fault) holds = tt
 
 -- the disk stood for the events of a legal history, and the job ended so
 pub keeps : (output : List PlainEvent → Output Infallible) (seen : Option (List ℕ)) (source source' sink sink' : Edge)
-    (result : Result (Unit {0}) (JobFault Infallible)) (history : History) → IsLegal history → IsOrderly history →
+    (result : Result (Unit {0}) (JobFault Infallible DiskFailed)) (history : History) → IsLegal history → IsOrderly history →
     IfSome seen (StandsFor (events_of history)) →
     Ends (output (events_of history)) source source' sink sink' result →
     Keeps output seen source source' sink sink' result

@@ -104,6 +104,12 @@ uncalled store whole = record {
   waits = λ is_whole kept group parts. (group, parts);
 }
 
+-- where the events that wait couldn't be kept, the store is closed
+pub fails_closed : {D : Type 0} (faults : D → ℕ) (before now : StoreState D) (fault : CommitFault) →
+    Fails faults before now fault → now.closed ≡ true
+fails_closed faults before now of_group.Disk fails = fails.1
+fails_closed faults before now of_group.Closed fails = ap (λ store. store.closed) fails.1 ∙ fails.0
+
 -- ---- what a call leaves, by the lines that were met
 
 -- the first of some lines are the first with more behind them

@@ -18,6 +18,7 @@ use Rattle.pol_record.specs.Lines.{answered_lines_after, answered_texts, closing
 use Rattle.pol_store.specs.Stands.{StandsFor}
 use Rattle.pol_store.specs.declared.opening.OpenFault.{OpenFault}
 use Rattle.pol_store.specs.declared.opening.OpenFault.TheVariants as opening
+use Rattle.pol_keep.specs.declared.fault.DiskFailed.{DiskFailed}
 use Rattle.pol_keep.specs.declared.fault.KeepFault.{KeepFault}
 use Rattle.pol_keep.specs.declared.fault.KeepFault.TheVariants.{Read, Write, Memory, TooMuch, Disk, NotAStore}
 
@@ -65,14 +66,18 @@ pub record StandsForAnswered (old : List PlainEvent) (input : List ℕ) (held he
 
 -- ---- how it ends
 
--- the result of a job over lines that ended so: where the disk failed, one that had no memory
-abbrev pub job_result : Result (Unit {0}) KeepFault → Result (Unit {0}) (JobFault Infallible)
+-- the disk failed
+abbrev pub disk_failed : DiskFailed
+disk_failed = record {}
+
+-- the result of a job over lines that ended so
+abbrev pub job_result : Result (Unit {0}) KeepFault → Result (Unit {0}) (JobFault Infallible DiskFailed)
 job_result (Ok done) = Ok done
 job_result (Err Read) = Err job.Read
 job_result (Err Write) = Err job.Write
 job_result (Err Memory) = Err job.Memory
 job_result (Err TooMuch) = Err job.TooMuch
-job_result (Err Disk) = Err job.Memory
+job_result (Err Disk) = Err (job.Failed disk_failed)
 job_result (Err (NotAStore place)) = Err job.Memory
 
 -- the fault of a job whose disk wasn't opened for this one
@@ -84,7 +89,7 @@ IsFaultOf (opening.NotAStore place) fault = fault ≡ NotAStore place
 -- The disk stood for these old events, at most 200,000, and the job ended as one with their output does. The run of the
 -- old events and of those of any lines is legal and orderly, so that all that is proved of such histories holds of it.
 pub record Keeps (output : List PlainEvent → Output Infallible) (seen : Option (List ℕ))
-    (source source' sink sink' : Edge) (result : Result (Unit {0}) (JobFault Infallible)) : Type 0 where
+    (source source' sink sink' : Edge) (result : Result (Unit {0}) (JobFault Infallible DiskFailed)) : Type 0 where
   pub old : List PlainEvent
   pub few : length old ≤ LONGEST_HISTORY
   pub stood : IfSome seen (StandsFor old)
@@ -97,7 +102,7 @@ abbrev pub IsUntouched : Edge → Edge → Edge → Edge → Type 0
 IsUntouched source source' sink sink' = (source' ≡ source) × (sink' ≡ sink)
 
 -- How a job with this output of the old events ended on a disk that read as these bytes, by its source and its sink
--- before and after. Where the disk failed, what was written is what is written where there is no memory.
+-- before and after.
 abbrev pub KeepEnds : (List PlainEvent → Output Infallible) → Option (List ℕ) → Edge → Edge → Edge → Edge
     → Result (Unit {0}) KeepFault → Type 0
 KeepEnds output seen source source' sink sink' (Ok done) = Keeps output seen source source' sink sink' (Ok done)
@@ -108,7 +113,7 @@ KeepEnds output seen source source' sink sink' (Err Memory) =
 KeepEnds output seen source source' sink sink' (Err TooMuch) =
     Keeps output seen source source' sink sink' (Err job.TooMuch)
 KeepEnds output seen source source' sink sink' (Err Disk) =
-    IsUntouched source source' sink sink' ⊎ Keeps output seen source source' sink sink' (Err job.Memory)
+    IsUntouched source source' sink sink' ⊎ Keeps output seen source source' sink sink' (Err (job.Failed disk_failed))
 KeepEnds output seen source source' sink sink' (Err (NotAStore place)) = IsUntouched source source' sink sink'
 
 -- it is no store, or there was no memory

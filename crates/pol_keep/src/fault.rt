@@ -1,11 +1,15 @@
 //! Why a job on a kept plant doesn't come to its end.
-ghost use Rattle.std.specs.Prelude.{◌≡◌, ◌≢◌, ℕ, true, IfErr};
+ghost use Rattle.std.specs.Prelude.{◌≡◌, ◌≢◌, ℕ, IfErr};
 ghost use Rattle.pol_keep.specs.Exported.{put_result};
 ghost use Rattle.pol_keep.specs.Kept.{IsFaultOf, job_result};
 
 use pol_jobs::{JobFault, PutFault};
 use pol_store::OpenFault;
 use std::convert::Infallible;
+
+/// The disk of a kept plant failed.
+#[derive(Drop)]
+pub struct DiskFailed;
 
 /// Why a job on a kept plant doesn't come to its end.
 #[derive(Clone, Copy, Debug, PartialEq, Eq)]
@@ -38,19 +42,18 @@ pub fn unopened(fault: OpenFault) -> KeepFault
     }
 }
 
-/// How the job ended, by whether its store was closed: then it stopped because the disk failed.
-pub fn ended(closed: bool, done: Result<(), JobFault<Infallible>>) -> Result<(), KeepFault>
+/// How the job ended.
+pub fn ended(done: Result<(), JobFault<Infallible, DiskFailed>>) -> Result<(), KeepFault>
     ensures job { job_result result ≡ done }
-    ensures disk { IfErr result (λ fault. fault ≡ KeepFault.Disk → closed ≡ true) }
     ensures store { IfErr result (λ fault. (place : ℕ) → fault ≢ KeepFault.NotAStore place) }
 {
     match done {
         Ok(()) => Ok(()),
         Err(JobFault::Read) => Err(KeepFault::Read),
         Err(JobFault::Write) => Err(KeepFault::Write),
-        Err(JobFault::Memory) if closed => Err(KeepFault::Disk),
         Err(JobFault::Memory) => Err(KeepFault::Memory),
         Err(JobFault::TooMuch) => Err(KeepFault::TooMuch),
+        Err(JobFault::Failed(DiskFailed)) => Err(KeepFault::Disk),
         Err(JobFault::Refused(never)) => match never {},
     }
 }

@@ -51,9 +51,8 @@ fn keep_on<S: Source, K: Sink, D: Disk>(
     let mut keeping = Keeping { alloc, store };
     let done = work(alloc, &mut keeping, source, sink);
     let Keeping { alloc: _, store } = keeping;
-    let closed = store.closed();
     let (_plant, disk) = store.into_parts();
-    (ended(closed, done), disk)
+    (ended(done), disk)
 }
 
 /// Replays the source on the plant that the disk keeps, and keeps each new event there; the disk comes back. It opens

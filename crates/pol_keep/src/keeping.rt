@@ -1,17 +1,18 @@
 //! A replay on a plant that is kept on a disk.
 
 use crate::answering::answer;
+use crate::fault::DiskFailed;
 use pol_disk::Disk;
 use pol_io::Sink;
 use pol_jobs::{InputLine, LineJob, PutFault, Stop};
 use pol_replay::{close, read_meaning};
 use pol_store::Store;
-use std::alloc::{AllocError, Global};
+use std::alloc::Global;
 use std::convert::Infallible;
 
 /// A replay on a plant that is kept: the event of each line is kept before its answer is handed on, and that before the
-/// next line is met. It closes with the line of each batch and the end line. Where the disk fails it stops as for want
-/// of memory, and its store is closed.
+/// next line is met. It closes with the line of each batch and the end line. Where the disk fails it stops, and its store
+/// is closed.
 pub struct Keeping<D: Disk> {
     /// The memory that it takes.
     pub alloc: Global,
@@ -22,11 +23,13 @@ pub struct Keeping<D: Disk> {
 impl<D: Disk> LineJob for Keeping<D> {
     type Refusal = Infallible;
 
+    type Failure = DiskFailed;
+
     const SETTLES_EACH: bool = true;
 
     const HANDS_ON_EACH: bool = true;
 
-    ghost use Rattle.std.specs.Prelude.{true};
+    ghost use Rattle.std.specs.Prelude.{◌≡◌, true};
 
     ghost SETTLES_EACH = { true };
 
@@ -50,20 +53,26 @@ impl<D: Disk> LineJob for Keeping<D> {
     ghost did_nothing = { λ keeping.
         goes_nowhere (telling D.bytes D.images D.moment D.left_since D.faults) D.only_now keeping.store };
 
-    fn reply(&mut self, line: InputLine<'_>, out: &mut Vec<u8>) -> Result<(), Stop<Infallible>> {
+    ghost HasFailed = { λ keeping. keeping.store.closed ≡ true };
+
+    fn reply(
+        &mut self,
+        line: InputLine<'_>,
+        out: &mut Vec<u8>,
+    ) -> Result<(), Stop<Infallible, DiskFailed>> {
         let meaning = read_meaning(self.alloc, line)?;
         answer(self.alloc, &mut self.store, meaning, out)?;
         Ok(())
     }
 
-    fn settle(&mut self) -> Result<(), AllocError> {
+    fn settle(&mut self) -> Result<(), DiskFailed> {
         match self.store.commit() {
             Ok(()) => Ok(()),
-            Err(_fault) => Err(AllocError),
+            Err(_fault) => Err(DiskFailed),
         }
     }
 
-    fn end(&mut self) -> Result<(), Stop<Infallible>> {
+    fn end(&mut self) -> Result<(), Stop<Infallible, DiskFailed>> {
         Ok(())
     }
 

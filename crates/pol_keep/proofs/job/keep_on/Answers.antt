@@ -5,7 +5,7 @@ use Rattle.pol_jobs.specs.Ends.{Ends, edge}
 use Rattle.pol_replay.specs.Replay.{replay_work}
 use Rattle.pol_store.proofs.Histories.{runs_legal}
 use Rattle.pol_keep.specs.Keeping.{GoesOn, telling}
-use Rattle.pol_keep.proofs.Ended.{did_either, when_done}
+use Rattle.pol_keep.proofs.Ended.{did_either, when_disk, when_done}
 use Rattle.pol_keep.proofs.Running.{keeps_all, keeps_answered, leaves_more, output_run}
 use Rattle.pol_keep.proofs.job.keep_on.Goals as goal
 
@@ -59,3 +59,13 @@ returns-clause-on g c =
     let did = did_either replay_work history (GoesOn disk c.args.store c.work-done.new.job.store) _ _ _
     c.work-done.result c.work-done.ensures.did_all c.work-done.ensures.did_some in
     rw c.into_parts-plant.ensures.1 did.did.on
+
+pub returns-clause-disk_cause : goal.returns-clause-disk_cause
+returns-clause-disk_cause g c =
+    let d = g.D.Disk in
+    let history = plant_history c.args.store.plant in
+    let disk = telling d.bytes d.images d.moment d.left_since d.faults in
+    let did = did_either replay_work history (GoesOn disk c.args.store c.work-done.new.job.store) _ _ _
+    c.work-done.result c.work-done.ensures.did_all c.work-done.ensures.did_some in
+    rw c.into_parts-plant.ensures.1 (when_disk _ _ (did.did.cause c.requires.opened) c.ended.result c.work-done.result
+    c.ended.ensures.job c.work-done.ensures.failed)
