@@ -104,6 +104,7 @@ fn read_seq(alloc: Global, text: &[u8], levels: u32) -> Option<(Node, usize)>
     if nodes.is_empty() {
         return None;
     }
+    nodes.shrink_to_fit();
     Some((in_sequence(nodes), rest.len()))
 }
 
@@ -120,6 +121,7 @@ fn read_par(alloc: Global, text: &[u8], levels: u32) -> Option<(Node, usize)>
     if nodes.len() < 2 {
         return None;
     }
+    nodes.shrink_to_fit();
     Some((in_parallel(nodes), rest.len()))
 }
 
@@ -201,6 +203,7 @@ fn read_sel(alloc: Global, text: &[u8], levels: u32) -> Option<(Node, usize)>
     let mut each = Vec::new(alloc);
     let rest = read_arms(alloc, inner, levels, &mut each)?;
     let rest = eat(rest, b"}")?;
+    each.shrink_to_fit();
     Some((by_choice(each), rest.len()))
 }
 

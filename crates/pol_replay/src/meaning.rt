@@ -22,22 +22,7 @@ pub enum LineMeaning<T> {
 // Whether a line says first of all that it is a start. No start is read quickly, for its binds.
 #[inline(always)]
 fn is_start(line: &[u8]) -> bool {
-    matches!(
-        line,
-        [
-            b'{',
-            b'"',
-            b'e',
-            b'v',
-            b'"',
-            b':',
-            b'"',
-            b's',
-            b't',
-            b'a',
-            ..
-        ]
-    )
+    line.starts_with(b"{\"ev\":\"start\"")
 }
 
 // What a line says, by the tree of its JSON. The large locals of such a reading stand here, so that the other lines
