@@ -5,21 +5,19 @@ use Rattle.std.specs.Prelude.{◌&&◌, ◌||◌, filter, is_some}
 use Rattle.std.specs.List.{filter_map}
 use Rattle.std.specs.Option.{option_or}
 use Rattle.std.proofs.Math.Bool.{and-true}
-use Rattle.std.proofs.lemmas.Bool.{or_left}
 use Rattle.std.proofs.lemmas.List.{length-map, length-reverse}
-use Rattle.pol_events.specs.Events.{PlainEntry, PlainEvent, plug, unplug, report, variable, start, freeze}
+use Rattle.pol_events.specs.Events.{PlainEntry, PlainEvent, plug, unplug, start, freeze}
 use Rattle.pol_events.specs.Events.{exchange_begin, exchange_end, exchange_cancel, plain_entry, plain_history}
 use Rattle.pol_events.specs.declared.answer.Answer.{Answer}
 use Rattle.pol_events.specs.declared.event.Entry.{Entry}
 use Rattle.pol_history.specs.Looking.{History, after_last, is_accepted, is_accepted_of, last_of, past, since}
-use Rattle.pol_history.specs.Modules.{begins_by, control_by, described, is_begin, is_moving, is_plug, reported}
-use Rattle.pol_history.specs.Modules.{reported_value, value_by}
+use Rattle.pol_history.specs.Modules.{begins_by, described, is_begin, is_moving, is_plug}
 use Rattle.pol_history.specs.Batches.{freezing, held_step, holds, is_freeze, is_start, starting, takes, taking, watches}
 use Rattle.pol_history.specs.Batches.{watching}
 use Rattle.pol_history.proofs.Filters.{all_of, filter_kept, length_filter}
 use Rattle.pol_audit.specs.Dockings.{docking_left}
 use Rattle.pol_audit.specs.Freezes.{asked_step, asking}
-use Rattle.pol_audit.specs.Placed.{asks, freezes, is_report, is_variable, moves, moves_or_reports, moves_or_values}
+use Rattle.pol_audit.specs.Placed.{asks, freezes, moves}
 
 -- the last that says something is among those that may
 pub last_among : {Form : Type 0} (test : PlainEntry → Bool) (says : PlainEntry → Option Form) →
@@ -90,18 +88,6 @@ no_description (plug at tag description) is = absurd cc
 no_description (exchange_end at tag ticket description) is = absurd cc
 no_description _ is = refl
 
--- what neither moves it nor reports a service reports no control
-no_control : (service : List ℕ) (event : PlainEvent) → (is_moving event || is_report event) ≡ false →
-    reported service event ≡ None
-no_control service (report at tag other control) is = absurd cc
-no_control service _ is = refl
-
--- nor a value
-no_value : (name : List ℕ) (event : PlainEvent) → (is_moving event || is_variable event) ≡ false →
-    reported_value name event ≡ None
-no_value name (variable at tag other value) is = absurd cc
-no_value name _ is = refl
-
 -- a plug moves the module
 plug_moves : (event : PlainEvent) → is_plug event ≡ true → is_moving event ≡ true
 plug_moves (plug at tag description) is = refl
@@ -122,30 +108,6 @@ pub description_among : (past : History)
     → last_of (λ entry. described entry.event) (filter moves past) ≡ last_of (λ entry. described entry.event) past
 description_among past =
     last_among moves (λ entry. described entry.event) (λ entry is. no_description entry.event is) past
-
--- the control is the last of its reports since docking
-pub control_among : (service : List ℕ) (past : History) →
-    last_of (λ entry. reported service entry.event)
-    (after_last (λ entry. is_moving entry.event) (filter moves_or_reports past))
-    ≡ control_by service past
-control_among service past =
-    ap (last_of (λ entry. reported service entry.event))
-    (cut_kept (λ entry. is_moving entry.event) moves_or_reports
-    (λ entry is. or_left (is_moving entry.event) (is_report entry.event) is) past)
-    ∙ last_among moves_or_reports (λ entry. reported service entry.event)
-    (λ entry is. no_control service entry.event is) (after_last (λ entry. is_moving entry.event) past)
-
--- the value likewise
-pub value_among : (name : List ℕ) (past : History) →
-    last_of (λ entry. reported_value name entry.event)
-    (after_last (λ entry. is_moving entry.event) (filter moves_or_values past))
-    ≡ value_by name past
-value_among name past =
-    ap (last_of (λ entry. reported_value name entry.event))
-    (cut_kept (λ entry. is_moving entry.event) moves_or_values
-    (λ entry is. or_left (is_moving entry.event) (is_variable entry.event) is) past)
-    ∙ last_among moves_or_values (λ entry. reported_value name entry.event)
-    (λ entry is. no_value name entry.event is) (after_last (λ entry. is_moving entry.event) past)
 
 -- the exchanges that were begun are among what moves the module
 pub begun_among : (past : History) →

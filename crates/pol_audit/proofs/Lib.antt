@@ -6,6 +6,7 @@ pub mod Logged
 pub mod Halting
 pub mod Standing
 pub mod Followed
+pub mod Telling
 pub mod Placing
 pub mod AskedSince
 pub mod HeldSteps

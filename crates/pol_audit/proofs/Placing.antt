@@ -25,19 +25,21 @@ use Rattle.pol_events.specs.Orderly.{is_orderly}
 use Rattle.pol_audit.specs.Followed.{AreFollowed}
 use Rattle.pol_audit.specs.Listed.{Grows, all_orderly, is_this, items_under, listed}
 use Rattle.pol_audit.specs.Standing.{after_entry, held_more, running_more}
-use Rattle.pol_audit.specs.Placed.{IsPlaced, asks, closes, freezes, moves, moves_or_reports, moves_or_values, starts}
+use Rattle.pol_audit.specs.Placed.{IsPlaced, asks, closes, freezes, moves, starts}
+use Rattle.pol_audit.specs.Told.{Tells, told_control, told_under, told_value}
 use Rattle.pol_audit.specs.declared.cursors.Followed.{Followed}
 use Rattle.pol_audit.specs.declared.places.Places.{Places}
 use Rattle.pol_audit.proofs.Followed.{none_followed, same_runs}
 use Rattle.pol_audit.proofs.Listing.{its_batch, its_tag}
 use Rattle.pol_audit.proofs.Standing.{held_follows, running_follows}
 use Rattle.pol_audit.proofs.Logged.{log_grows, log_stays}
+use Rattle.pol_audit.proofs.Telling.{controls_more, values_more}
 
 -- lists without items are those of an empty history
 pub nothing_placed : (places : Places) →
     ((tag : List ℕ) → items_under places.modules.moves.named.entries tag ≡ []) →
-    ((tag : List ℕ) → items_under places.modules.reports.named.entries tag ≡ []) →
-    ((tag : List ℕ) → items_under places.modules.values.named.entries tag ≡ []) →
+    ((tag service : List ℕ) → told_under places.modules.controls.tagged.entries tag service ≡ None) →
+    ((tag name : List ℕ) → told_under places.modules.values.tagged.entries tag name ≡ None) →
     ((batch : List ℕ) → items_under places.batches.starts.named.entries batch ≡ []) →
     ((batch : List ℕ) → items_under places.batches.closings.named.entries batch ≡ []) →
     ((batch : List ℕ) → items_under places.batches.freezings.named.entries batch ≡ []) →
@@ -50,11 +52,11 @@ pub nothing_placed : (places : Places) →
     ((batch : List ℕ) → lookup (bytes_eq batch) places.cursors.followed.entries ≡ None) →
     places.known.recipes.entries.items ≡ [] → places.known.starts.items ≡ [] → places.known.present.items ≡ [] →
     IsPlaced places []
-nothing_placed places moving reporting valued starting closing freezing asking logs runs halts running held followed
+nothing_placed places moving controls values starting closing freezing asking logs runs halts running held followed
     recipes started present = record {
       moves = λ tag. ap listed (moving tag);
-      reports = λ tag. ap listed (reporting tag);
-      values = λ tag. ap listed (valued tag);
+      controls = controls;
+      values = values;
       starts = λ batch. ap listed (starting batch);
       closings = λ batch. ap listed (closing batch);
       freezings = λ batch. ap listed (freezing batch);
@@ -227,10 +229,10 @@ followed_more history item old learned gone ended begun kept after learns goes e
 pub placed_more : (history : History) (item : Bor Entry) (old new : Places) →
     Grows old.modules.moves.named.entries new.modules.moves.named.entries
     (accepted_tag (plain_entry item.now)) (moves (plain_entry item.now)) item →
-    Grows old.modules.reports.named.entries new.modules.reports.named.entries
-    (accepted_tag (plain_entry item.now)) (moves_or_reports (plain_entry item.now)) item →
-    Grows old.modules.values.named.entries new.modules.values.named.entries
-    (accepted_tag (plain_entry item.now)) (moves_or_values (plain_entry item.now)) item →
+    Tells old.modules.controls.tagged.entries new.modules.controls.tagged.entries (accepted_tag (plain_entry item.now))
+    (moves (plain_entry item.now)) (told_control (plain_event item.now.event)) →
+    Tells old.modules.values.tagged.entries new.modules.values.tagged.entries (accepted_tag (plain_entry item.now))
+    (moves (plain_entry item.now)) (told_value (plain_event item.now.event)) →
     Grows old.batches.starts.named.entries new.batches.starts.named.entries
     (accepted_batch (plain_entry item.now)) (starts (plain_entry item.now)) item →
     Grows old.batches.closings.named.entries new.batches.closings.named.entries
@@ -265,11 +267,11 @@ pub placed_more : (history : History) (item : Bor Entry) (old new : Places) →
     new.known.present.items
     ≡ present_after (plain_event item.now.event) (is_accepted item.now.answer) old.known.present.items →
     IsPlaced old history → IsPlaced new (plain_entry item.now ∷ history)
-placed_more history item old new moving reporting valued starting closing freezing asking logs runs halts running held
+placed_more history item old new moving controls values starting closing freezing asking logs runs halts running held
     followed recipe started tags placed = record {
       moves = tag_grown moves history item _ _ moving placed.moves;
-      reports = tag_grown moves_or_reports history item _ _ reporting placed.reports;
-      values = tag_grown moves_or_values history item _ _ valued placed.values;
+      controls = controls_more history (plain_entry item.now) _ _ controls placed.controls;
+      values = values_more history (plain_entry item.now) _ _ values placed.values;
       starts = batch_grown starts history item _ _ starting placed.starts;
       closings = batch_grown closes history item _ _ closing placed.closings;
       freezings = batch_grown freezes history item _ _ freezing placed.freezings;

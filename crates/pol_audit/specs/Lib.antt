@@ -1,4 +1,5 @@
 pub mod Listed
+pub mod Told
 pub mod Standing
 pub mod Halts
 pub mod Followed

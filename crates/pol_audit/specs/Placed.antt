@@ -1,8 +1,8 @@
 -- An index of a history: each of its lists has just the entries that its name says, in their order.
-use Rattle.std.specs.Prelude.{◌≡◌, ◌||◌, ℕ, Bool, true, false, List, filter, is_some}
-use Rattle.pol_events.specs.Events.{PlainEntry, PlainEvent, report, variable}
+use Rattle.std.specs.Prelude.{◌≡◌, ◌||◌, ℕ, Bool, List, filter, is_some}
+use Rattle.pol_events.specs.Events.{PlainEntry}
 use Rattle.pol_history.specs.Looking.{History, past, past_of_batch, recipes}
-use Rattle.pol_history.specs.Modules.{is_moving, present_tags}
+use Rattle.pol_history.specs.Modules.{control_by, is_moving, present_tags, value_by}
 use Rattle.pol_history.specs.Batches.{closing, freezing, held_step, is_freeze, is_start, log_by, starting}
 use Rattle.mtp_codes.specs.Names.{is_among}
 use Rattle.chart_core.specs.Active.{is_running, phase_after}
@@ -10,29 +10,12 @@ use Rattle.chart_cursor.specs.Logs.{chart_entries, was_held}
 use Rattle.pol_audit.specs.Followed.{AreFollowed}
 use Rattle.pol_audit.specs.Halts.{is_halt}
 use Rattle.pol_audit.specs.Listed.{items_under, listed}
+use Rattle.pol_audit.specs.Told.{told_under}
 use Rattle.pol_audit.specs.declared.places.Places.{Places}
-
--- the event reports a service
-abbrev pub is_report : PlainEvent → Bool
-is_report (report at tag service control) = true
-is_report _ = false
-
--- the event reports a variable
-abbrev pub is_variable : PlainEvent → Bool
-is_variable (variable at tag name value) = true
-is_variable _ = false
 
 -- the entry moves its module
 abbrev pub moves : PlainEntry → Bool
 moves entry = is_moving entry.event
-
--- the entry moves its module or reports a service of it
-abbrev pub moves_or_reports : PlainEntry → Bool
-moves_or_reports entry = is_moving entry.event || is_report entry.event
-
--- the entry moves its module or reports a variable of it
-abbrev pub moves_or_values : PlainEntry → Bool
-moves_or_values entry = is_moving entry.event || is_variable entry.event
 
 -- the entry starts its batch
 abbrev pub starts : PlainEntry → Bool
@@ -50,14 +33,14 @@ freezes entry = is_some (freezing entry.event)
 abbrev pub asks : PlainEntry → Bool
 asks entry = is_freeze entry.event || is_some (held_step entry.answer)
 
--- the lists are those of the history, and the cursors went along its batches
+-- the lists are those of the history, what was told last is so there, and the cursors went along its batches
 pub record IsPlaced (places : Places) (history : History) : Type 0 where
   pub moves : (tag : List ℕ) → listed (items_under places.modules.moves.named.entries tag)
       ≡ filter moves (past tag history)
-  pub reports : (tag : List ℕ) → listed (items_under places.modules.reports.named.entries tag)
-      ≡ filter moves_or_reports (past tag history)
-  pub values : (tag : List ℕ) → listed (items_under places.modules.values.named.entries tag)
-      ≡ filter moves_or_values (past tag history)
+  pub controls : (tag service : List ℕ) → told_under places.modules.controls.tagged.entries tag service
+      ≡ control_by service (past tag history)
+  pub values : (tag name : List ℕ) → told_under places.modules.values.tagged.entries tag name
+      ≡ value_by name (past tag history)
   pub starts : (batch : List ℕ) → listed (items_under places.batches.starts.named.entries batch)
       ≡ filter starts (past_of_batch batch history)
   pub closings : (batch : List ℕ) → listed (items_under places.batches.closings.named.entries batch)

@@ -7,8 +7,9 @@
 //! Its main contracts are those of `says`, which answers as `pol_history` defines; of `judge`, which tells the first
 //! answer of a history that is another one; and of `Audit`, which is fed the lines of a history and gives the verdict
 //! that `specs/Verdict.antt` defines. Each value is searched among the entries of the history that concern it, which an
-//! index lists (`specs/Placed.antt`), and a cursor goes along the run of each open batch (`specs/Followed.antt`); it
-//! knows nothing of plants and their tables, of sources and sinks, threads or clocks.
+//! index lists (`specs/Placed.antt`); what each service and each variable told last stands there by its tag and name
+//! (`specs/Told.antt`), and a cursor goes along the run of each open batch (`specs/Followed.antt`). It knows nothing of
+//! plants and their tables, of sources and sinks, threads or clocks.
 //!
 //! Each rule that can refuse an event is the function of its name: in `module_rules` where a module's past decides it,
 //! in `batch_rules` where recipes, batches or holders do, in `start_rules` where it asks about the binds of a start.
@@ -41,6 +42,7 @@ mod sights;
 mod standings;
 mod start_rules;
 mod tails;
+mod told;
 
 pub use answers::says;
 pub use audit::Audit;

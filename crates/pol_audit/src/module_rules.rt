@@ -12,7 +12,7 @@ ghost use Rattle.pol_history.specs.Rules.{not_in_exchange, not_reported, plant_f
 ghost use Rattle.pol_audit.specs.Holding.{held_by};
 
 use crate::batches::holder_of;
-use crate::modules::{Docking, control_of, description_of, docking_of, view_of};
+use crate::modules::{Docking, description_of, docking_of, view_of};
 use crate::past::Past;
 use mtp_assembly::check_view;
 use mtp_codes::{Command, MOST_MODULES, Name, Speaker, State, Value};
@@ -124,7 +124,7 @@ pub fn no_service(history: &Past<'_, '_>, tag: Name, service: Name) -> Option<Ru
 pub fn not_an_edge(history: &Past<'_, '_>, tag: Name, service: Name, to: State) -> Option<Rule>
     ensures { result ≡ not_an_edge to (control_by service (past tag (plain_history history.now))) }
 {
-    let from = control_of(history, tag, service)?.state;
+    let from = history.control(tag, service)?.state;
     if from == to || edge(from, to) {
         None
     } else {
@@ -202,7 +202,7 @@ pub fn forbidden(history: &Past<'_, '_>, tag: Name, service: Name, command: Comm
 fn service_not_at_rest(history: &Past<'_, '_>, tag: Name, service: Name) -> Option<Rule>
     ensures { result ≡ service_not_at_rest service (control_by service (past tag (plain_history history.now))) }
 {
-    let state = control_of(history, tag, service)?.state;
+    let state = history.control(tag, service)?.state;
     if is_at_rest(state) {
         None
     } else {

@@ -6,13 +6,12 @@ ghost use Rattle.mtp_desc.specs.PlainDescription.{plain_description};
 ghost use Rattle.pol_events.specs.Events.{plain_entry, plain_event, plain_history};
 ghost use Rattle.pol_history.specs.Looking.{past, last_of, is_accepted};
 ghost use Rattle.pol_history.specs.Modules.{is_plug, is_begin, is_moving, begins_by, docking_by, described};
-ghost use Rattle.pol_history.specs.Modules.{description_by, completes_by, reported, control_by, view_by};
-ghost use Rattle.pol_history.specs.Modules.{reported_value, value_by, next_ticket, tags_without, present_after};
+ghost use Rattle.pol_history.specs.Modules.{description_by, completes_by, view_by, next_ticket, tags_without};
+ghost use Rattle.pol_history.specs.Modules.{present_after};
 ghost use Rattle.pol_audit.specs.Dockings.{docking_left, docking_seen};
 
 use crate::past::Past;
-use mtp_assembly::ServiceControl;
-use mtp_codes::{Name, Value};
+use mtp_codes::Name;
 use mtp_desc::Description;
 use mtp_modes::ServiceView;
 use pol_events::{Answer, Entry, Event};
@@ -98,56 +97,6 @@ pub fn is_moving(event: &Event) -> bool
     )
 }
 
-fn reported(event: &Event, service: Name) -> Option<ServiceControl>
-    ensures { result ≡ reported service (plain_event event.now) }
-{
-    match event {
-        Event::Report {
-            service: other,
-            control,
-            ..
-        } if *other == service => Some(*control),
-        _ => None,
-    }
-}
-
-/// What the service reported last since its module was docked.
-pub fn control_of(history: &Past<'_, '_>, tag: Name, service: Name) -> Option<ServiceControl>
-    ensures { result ≡ control_by service (past tag (plain_history history.now)) }
-{
-    history
-        .reports(tag)
-        .iter()
-        .rev()
-        .take_while(|entry| !is_moving(&entry.event))
-        .find_map(|entry| reported(&entry.event, service))
-}
-
-fn reported_value(event: &Event, name: Name) -> Option<Value>
-    ensures { result ≡ reported_value name (plain_event event.now) }
-{
-    match event {
-        Event::Variable {
-            name: other,
-            value,
-            ..
-        } if *other == name => Some(*value),
-        _ => None,
-    }
-}
-
-/// The value with which the variable was reported last since its module was docked.
-pub fn value_of(history: &Past<'_, '_>, tag: Name, name: Name) -> Option<Value>
-    ensures { result ≡ value_by name (past tag (plain_history history.now)) }
-{
-    history
-        .values(tag)
-        .iter()
-        .rev()
-        .take_while(|entry| !is_moving(&entry.event))
-        .find_map(|entry| reported_value(&entry.event, name))
-}
-
 // Whether the procedure completes by itself, by the module's description.
 fn completes(description: Option<&Description>, service: Name, procedure: u16) -> bool
     ensures { result ≡ completes_by service procedure
@@ -164,7 +113,7 @@ fn completes(description: Option<&Description>, service: Name, procedure: u16) -
 pub fn view_of(history: &Past<'_, '_>, tag: Name, service: Name) -> Option<ServiceView>
     ensures { result ≡ view_by service (past tag (plain_history history.now)) }
 {
-    let control = control_of(history, tag, service)?;
+    let control = history.control(tag, service)?;
     let description = description_of(history, tag);
     Some(ServiceView {
         control,

@@ -6,7 +6,8 @@ use crate::log::Log;
 use crate::places::Places;
 use crate::recipes::Recipes;
 use chart_cursor::Cursor;
-use mtp_codes::Name;
+use mtp_assembly::ServiceControl;
+use mtp_codes::{Name, Value};
 use pol_events::Entry;
 use std::marker::Model;
 
@@ -39,10 +40,10 @@ impl<'a> Past<'a, '_> {
     ghost use Rattle.chart_cursor.specs.Logs.{chart_entries};
     ghost use Rattle.pol_history.specs.Looking.{past, past_of_batch, recipes};
     ghost use Rattle.pol_history.specs.Batches.{is_start, log_by};
-    ghost use Rattle.pol_history.specs.Modules.{present_tags};
+    ghost use Rattle.pol_history.specs.Modules.{control_by, present_tags, value_by};
     ghost use Rattle.pol_audit.specs.Followed.{GoesAlong};
     ghost use Rattle.pol_audit.specs.Listed.{listed};
-    ghost use Rattle.pol_audit.specs.Placed.{asks, closes, freezes, moves, moves_or_reports, moves_or_values, starts};
+    ghost use Rattle.pol_audit.specs.Placed.{asks, closes, freezes, moves, starts};
 
     /// How many entries the history has.
     pub fn len(&self) -> usize
@@ -58,18 +59,18 @@ impl<'a> Past<'a, '_> {
         self.places.modules.moves.of(tag)
     }
 
-    /// The entries that move the module or report a service of it.
-    pub fn reports(&self, tag: Name) -> &[&'a Entry]
-        ensures { listed result.now ≡ filter moves_or_reports (past tag (plain_history self.now)) }
+    /// What the service of the module reported last since the module was docked.
+    pub fn control(&self, tag: Name, service: Name) -> Option<ServiceControl>
+        ensures { result ≡ control_by service (past tag (plain_history self.now)) }
     {
-        self.places.modules.reports.of(tag)
+        self.places.modules.controls.last(tag, service)
     }
 
-    /// The entries that move the module or report a variable of it.
-    pub fn values(&self, tag: Name) -> &[&'a Entry]
-        ensures { listed result.now ≡ filter moves_or_values (past tag (plain_history self.now)) }
+    /// The value with which the variable of the module was reported last since the module was docked.
+    pub fn value(&self, tag: Name, name: Name) -> Option<Value>
+        ensures { result ≡ value_by name (past tag (plain_history self.now)) }
     {
-        self.places.modules.values.of(tag)
+        self.places.modules.values.last(tag, name)
     }
 
     /// The starts of the batch.

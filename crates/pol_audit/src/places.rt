@@ -12,7 +12,8 @@ ghost use Rattle.chart_core.specs.Entries.{chart_entry};
 ghost use Rattle.chart_cursor.specs.Logs.{chart_entries};
 ghost use Rattle.pol_audit.specs.Halts.{is_halt};
 ghost use Rattle.pol_audit.specs.Listed.{Grows};
-ghost use Rattle.pol_audit.specs.Placed.{IsPlaced, is_report, is_variable};
+ghost use Rattle.pol_audit.specs.Placed.{IsPlaced};
+ghost use Rattle.pol_audit.specs.Told.{Tells, told_control, told_value};
 
 use crate::batches::taken;
 use crate::cursors::Cursors;
@@ -20,23 +21,35 @@ use crate::lists::Lists;
 use crate::modules::{is_moving, tags_after};
 use crate::recipes::Recipes;
 use crate::standings::Standings;
+use crate::told::Told;
 use chart_core::LogEntry;
-use mtp_codes::Name;
+use mtp_assembly::ServiceControl;
+use mtp_codes::{Name, Value};
 use pol_events::{Answer, Entry, Event};
 use std::alloc::{AllocError, Global};
 
 // ---- what an entry is
 
-fn is_report(event: &Event) -> bool
-    ensures { result ≡ is_report (plain_event event.now) }
+fn told_control(event: &Event) -> Option<(Name, ServiceControl)>
+    ensures { result ≡ told_control (plain_event event.now) }
 {
-    matches!(event, Event::Report { .. })
+    match event {
+        Event::Report {
+            service,
+            control,
+            ..
+        } => Some((*service, *control)),
+        _ => None,
+    }
 }
 
-fn is_variable(event: &Event) -> bool
-    ensures { result ≡ is_variable (plain_event event.now) }
+fn told_value(event: &Event) -> Option<(Name, Value)>
+    ensures { result ≡ told_value (plain_event event.now) }
 {
-    matches!(event, Event::Variable { .. })
+    match event {
+        Event::Variable { name, value, .. } => Some((*name, *value)),
+        _ => None,
+    }
 }
 
 fn is_starting(event: &Event) -> bool
@@ -90,32 +103,32 @@ fn is_halt(entry: &LogEntry) -> bool
 
 // ---- modules
 
-/// The accepted entries of each module: those that move it, these and its reports, these and its values.
+/// The accepted entries that move each module, and what each service and each variable of it told last since.
 #[derive(Drop)]
 pub struct ModulePlaces<'a> {
     pub moves: Lists<&'a Entry>,
-    pub reports: Lists<&'a Entry>,
-    pub values: Lists<&'a Entry>,
+    pub controls: Told<ServiceControl>,
+    pub values: Told<Value>,
 }
 
 impl<'a> ModulePlaces<'a> {
     fn add_module(&mut self, alloc: Global, entry: &'a Entry) -> Result<(), AllocError>
         ensures moves { OnOk result (Grows self.old.moves.named.entries self.new.moves.named.entries
             (accepted_tag (plain_entry entry.now)) (is_moving (plain_event entry.now.event)) entry.entry) }
-        ensures reports { OnOk result (Grows self.old.reports.named.entries self.new.reports.named.entries
-            (accepted_tag (plain_entry entry.now))
-            (is_moving (plain_event entry.now.event) || is_report (plain_event entry.now.event)) entry.entry) }
-        ensures values { OnOk result (Grows self.old.values.named.entries self.new.values.named.entries
-            (accepted_tag (plain_entry entry.now))
-            (is_moving (plain_event entry.now.event) || is_variable (plain_event entry.now.event)) entry.entry) }
+        ensures controls { OnOk result (Tells self.old.controls.tagged.entries self.new.controls.tagged.entries
+            (accepted_tag (plain_entry entry.now)) (is_moving (plain_event entry.now.event))
+            (told_control (plain_event entry.now.event))) }
+        ensures values { OnOk result (Tells self.old.values.tagged.entries self.new.values.tagged.entries
+            (accepted_tag (plain_entry entry.now)) (is_moving (plain_event entry.now.event))
+            (told_value (plain_event entry.now.event))) }
     {
         let tag = entry.accepted_tag();
         let moves = is_moving(&entry.event);
-        let reports = moves || is_report(&entry.event);
-        let values = moves || is_variable(&entry.event);
         self.moves.add_if(alloc, &tag, moves, entry)?;
-        self.reports.add_if(alloc, &tag, reports, entry)?;
-        self.values.add_if(alloc, &tag, values, entry)
+        self.controls
+            .tell(alloc, &tag, moves, told_control(&entry.event))?;
+        self.values
+            .tell(alloc, &tag, moves, told_value(&entry.event))
     }
 }
 
@@ -255,8 +268,8 @@ impl<'a> Places<'a> {
         Places {
             modules: ModulePlaces {
                 moves: Lists::new(alloc),
-                reports: Lists::new(alloc),
-                values: Lists::new(alloc),
+                controls: Told::new(alloc),
+                values: Told::new(alloc),
             },
             batches: BatchPlaces {
                 starts: Lists::new(alloc),

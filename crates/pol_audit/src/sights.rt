@@ -2,7 +2,7 @@
 ghost use Rattle.std.specs.Prelude.{◌≡◌};
 ghost use Rattle.chart_cursor.specs.Sights.{reading_of_value, sight_of_view};
 
-use crate::modules::{Docking, docking_of, value_of, view_of};
+use crate::modules::{Docking, docking_of, view_of};
 use crate::past::Past;
 use chart_cursor::{ReadingSight, Seen, Sight};
 use mtp_codes::{Name, Reading, Value};
@@ -69,7 +69,7 @@ impl Seen for Sights<'_> {
         match docking_of(self.history, tag) {
             Docking::Away { .. } => ReadingSight::Away,
             Docking::Absent => ReadingSight::Unreported,
-            Docking::Docked => reading_of_value(value_of(self.history, tag, var)),
+            Docking::Docked => reading_of_value(self.history.value(tag, var)),
         }
     }
 }

@@ -13,7 +13,7 @@ returns c = λ history placed.
       cursors = c.begin.new.self;
       known = c.add_known.new.self;
     })
-    c.in_ok-add_module.ensures.moves c.in_ok-add_module.ensures.reports c.in_ok-add_module.ensures.values
+    c.in_ok-add_module.ensures.moves c.in_ok-add_module.ensures.controls c.in_ok-add_module.ensures.values
     c.in_ok-add_batch.ensures.starts c.in_ok-add_batch.ensures.closings c.in_ok-add_batch.ensures.freezings
     c.in_ok-add_batch.ensures.askings c.in_ok-add_log.ensures.logs c.in_ok-add_log.ensures.runs
     c.in_ok-add_log.ensures.halts c.in_ok-add_standing.ensures.running c.in_ok-add_standing.ensures.held
