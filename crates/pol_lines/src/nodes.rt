@@ -17,18 +17,24 @@ use std::alloc::Global;
 fn in_sequence(nodes: Vec<Node>) -> Node
     ensures { plain_node result ≡ seq (trees nodes.items) }
 {
+    let mut nodes = nodes;
+    nodes.shrink_to_fit();
     Node::Seq(nodes)
 }
 
 fn in_parallel(nodes: Vec<Node>) -> Node
     ensures { plain_node result ≡ par (trees nodes.items) }
 {
+    let mut nodes = nodes;
+    nodes.shrink_to_fit();
     Node::Par(nodes)
 }
 
 fn by_choice(each: Vec<Arm>) -> Node
     ensures { plain_node result ≡ choice (arms each.items) }
 {
+    let mut each = each;
+    each.shrink_to_fit();
     Node::Sel(each)
 }
 
@@ -104,7 +110,6 @@ fn read_seq(alloc: Global, text: &[u8], levels: u32) -> Option<(Node, usize)>
     if nodes.is_empty() {
         return None;
     }
-    nodes.shrink_to_fit();
     Some((in_sequence(nodes), rest.len()))
 }
 
@@ -121,7 +126,6 @@ fn read_par(alloc: Global, text: &[u8], levels: u32) -> Option<(Node, usize)>
     if nodes.len() < 2 {
         return None;
     }
-    nodes.shrink_to_fit();
     Some((in_parallel(nodes), rest.len()))
 }
 
@@ -203,7 +207,6 @@ fn read_sel(alloc: Global, text: &[u8], levels: u32) -> Option<(Node, usize)>
     let mut each = Vec::new(alloc);
     let rest = read_arms(alloc, inner, levels, &mut each)?;
     let rest = eat(rest, b"}")?;
-    each.shrink_to_fit();
     Some((by_choice(each), rest.len()))
 }
 
