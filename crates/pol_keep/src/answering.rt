@@ -51,7 +51,7 @@ fn answer_event<D: Disk>(
 pub fn answer<D: Disk>(
     alloc: Global,
     store: &mut Store<D>,
-    meaning: LineMeaning,
+    meaning: LineMeaning<Event>,
     out: &mut Vec<u8>,
 ) -> Result<(), Stop<Infallible, DiskFailed>>
     requires { IsOrderly meaning }
@@ -66,6 +66,6 @@ pub fn answer<D: Disk>(
     match meaning {
         LineMeaning::Nothing => Ok(()),
         LineMeaning::Fault(fault) => Ok(put_fault_line(alloc, out, &fault)?),
-        LineMeaning::Event(event) => answer_event(alloc, store, event, out),
+        LineMeaning::Said(event) => answer_event(alloc, store, event, out),
     }
 }

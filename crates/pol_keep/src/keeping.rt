@@ -5,6 +5,7 @@ use crate::fault::DiskFailed;
 use pol_disk::Disk;
 use pol_io::Sink;
 use pol_jobs::{InputLine, LineJob, PutFault, Stop};
+use pol_lines::JournalLines;
 use pol_replay::{close, read_meaning};
 use pol_store::Store;
 use std::alloc::Global;
@@ -60,7 +61,7 @@ impl<D: Disk> LineJob for Keeping<D> {
         line: InputLine<'_>,
         out: &mut Vec<u8>,
     ) -> Result<(), Stop<Infallible, DiskFailed>> {
-        let meaning = read_meaning(self.alloc, line)?;
+        let meaning = read_meaning::<JournalLines>(self.alloc, line)?;
         answer(self.alloc, &mut self.store, meaning, out)?;
         Ok(())
     }
