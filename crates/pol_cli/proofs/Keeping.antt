@@ -1,32 +1,19 @@
--- What a status tells of the job on a kept plant.
-use Rattle.std.proofs.Common.{ℕ, ◌≡◌, ◌⊎◌, List, Option, refl, subst, inl, inr}
-use Rattle.std.specs.Prelude.{Result, Ok, Err, IfErr, OnOk}
+-- How a job on a kept plant ended, by its result.
+use Rattle.std.proofs.Common.{ℕ, ◌≡◌, List, refl, subst, inl, inr}
+use Rattle.std.specs.Prelude.{Some, IfSome, Result, Ok, Err, IfErr, OnOk}
 use Rattle.std.specs.declared.convert.Infallible.{Infallible}
-use Rattle.pol_arguments.specs.declared.SerialTask.{SerialTask}
-use Rattle.pol_arguments.specs.declared.SerialTask.TheVariants.{Replay, Demo, Audit, Find, Guard, Migrate}
-use Rattle.pol_disk.proofs.Moments.{started}
-use Rattle.pol_find.specs.Finding.{found}
-use Rattle.pol_guard.specs.Guarded.{guarded}
-use Rattle.pol_io.specs.Edge.{Edge}
+use Rattle.pol_disk.specs.Disks.{told_through}
+use Rattle.pol_events.specs.Events.{PlainEvent}
 use Rattle.pol_jobs.specs.LineWork.{Output}
-use Rattle.pol_jobs.specs.declared.fault.JobFault.{JobFault}
-use Rattle.pol_jobs.specs.declared.fault.JobFault.TheVariants as job
-use Rattle.pol_keep.specs.Exported.{no_input}
-use Rattle.pol_keep.specs.Keeping.{Telling}
-use Rattle.pol_keep.specs.Kept.{IsUnopened, StandsForMore}
-use Rattle.pol_keep.proofs.Ended.{of_input}
+use Rattle.pol_keep.specs.Kept.{IsUnopened, KeepEnds}
 use Rattle.pol_keep.specs.declared.fault.KeepFault.{KeepFault}
 use Rattle.pol_keep.specs.declared.fault.KeepFault.TheVariants as kept
-use Rattle.pol_migration.specs.Job.{migrating}
-use Rattle.pol_replay.specs.Replay.{replayed}
-use Rattle.pol_store.specs.Stands.{StandsFor}
-use Rattle.pol_cli.specs.Audits.{audited}
-use Rattle.pol_cli.specs.Keeping.{HoldsEvents, IsNotBegun, KeepsInput}
-use Rattle.pol_cli.specs.SiteRuns.{planted}
-use Rattle.pol_cli.specs.Statuses.{no_refusal, refused_as, status_of, status_of_kept}
-use Rattle.pol_cli.specs.Tasks.{JobEnds, PlantEnds, SerialEnds, demonstrated}
-use Rattle.pol_cli.specs.declared.status.Status.{Status}
-use Rattle.pol_cli.specs.declared.status.Wanted.TheVariants.{Site, Policy}
+use Rattle.pol_store.specs.Opens.{IsNoStore}
+use Rattle.pol_store.specs.Stands.{StandsForNone}
+use Rattle.pol_cli.specs.Keeping.{DiskFailed, IsNotBegun}
+use Rattle.pol_cli.specs.Statuses.{status_of_kept}
+use Rattle.pol_cli.specs.Tasks.{KeptEnds}
+use Rattle.pol_cli.specs.Worked.{Disks, Edges}
 use Rattle.pol_cli.specs.declared.status.Status.TheVariants as status
 
 -- all was done
@@ -90,81 +77,25 @@ not_begun (Err kept.TooMuch) none = absurd none
 not_begun (Err kept.Disk) none = absurd none
 not_begun (Err (kept.NotAStore place)) none = inl (place, refl)
 
--- ---- where there was no memory to read the words
-
--- all isn't good then
-not_good : status.OutOfMemory ≡ status.Good → ⊥
-not_good is = cc
-
-module _ {D : Type 0} (disk : Telling D) where
-  -- the disk is left as it was
-  pub unread_keeps : (now : D) (left held : Option (List ℕ)) →
-      ((image : List ℕ) → disk.left_since now (disk.moment now) image → disk.images now image) →
-      KeepsInput disk now now left held held status.OutOfMemory
-  unread_keeps now left held only_now = record {
-    lines = record {
-      moments = λ old reads tells. of_input left _ (λ input. started disk.moment disk.left_since now
-          (λ image. disk.images now image ⊎ StandsForMore old input image)
-          (λ image since. inl (only_now image since)));
-      kept = λ old reads tells. of_input left _ (λ input image crash. inl (refl, crash));
-    };
-    all = λ good. absurd (not_good good);
-  }
-
-  -- and so where only holding its events was asked for
-  pub unread_holds : (now : D) →
-      ((image : List ℕ) → disk.left_since now (disk.moment now) image → disk.images now image) →
-      HoldsEvents disk now now status.OutOfMemory
-  unread_holds now only_now = record {
-    events = λ old reads tells. started disk.moment disk.left_since now
-        (λ image. disk.images now image ⊎ StandsFor old image) (λ image since. inl (only_now image since));
-    all = λ good. absurd (not_good good);
-  }
-
--- ---- no other job tells of the disk
-
--- the status is one of the kept plant's alone
-abbrev pub IsOfDisk : Status → Type 0
-IsOfDisk status.DiskFault = Unit {0}
-IsOfDisk (status.NotAStore place) = Unit {0}
-IsOfDisk _ = ⊥
-
--- no job refuses its input so
-never_refused : (reason : Infallible) → IsOfDisk (no_refusal reason) → ⊥
-never_refused = elim [ ]
-
--- a job over lines has it only where its refusal has
-job_not_of_disk : {Reason : Type 0} (refused : Reason → Status) → ((reason : Reason) → IsOfDisk (refused reason) → ⊥) →
-    (result : Result (Unit {0}) (JobFault Reason Infallible)) → IsOfDisk (status_of refused result) → ⊥
-job_not_of_disk refused never (Ok done) of_disk = of_disk
-job_not_of_disk refused never (Err job.Read) of_disk = of_disk
-job_not_of_disk refused never (Err job.Write) of_disk = of_disk
-job_not_of_disk refused never (Err job.Memory) of_disk = of_disk
-job_not_of_disk refused never (Err job.TooMuch) of_disk = of_disk
-job_not_of_disk refused never (Err (job.Failed nothing)) of_disk = never_refused nothing of_disk
-job_not_of_disk refused never (Err (job.Refused reason)) of_disk = never reason of_disk
-
--- nor has one that ended
-ended_not_of_disk : {Reason : Type 0} (output : Output Reason) (refused : Reason → Status) →
-    ((reason : Reason) → IsOfDisk (refused reason) → ⊥) → (source source' sink sink' : Edge) (now : Status) →
-    JobEnds output refused source source' sink sink' now → IsOfDisk now → ⊥
-ended_not_of_disk output refused never source source' sink sink' now ends of_disk =
-    job_not_of_disk refused never ends.result (subst IsOfDisk ends.told of_disk)
-
--- a job of one thread hasn't it
-pub serial_not_of_disk : (task : SerialTask) (source source' sink sink' : Edge) (now : Status) →
-    SerialEnds task source source' sink sink' now → IsOfDisk now → ⊥
-serial_not_of_disk Replay source source' = ended_not_of_disk replayed no_refusal never_refused source source'
-serial_not_of_disk (Demo seed) source source' =
-    ended_not_of_disk (demonstrated seed) no_refusal never_refused no_input no_input
-serial_not_of_disk Audit source source' = ended_not_of_disk audited no_refusal never_refused source source'
-serial_not_of_disk Find source source' = ended_not_of_disk found no_refusal never_refused source source'
-serial_not_of_disk Guard source source' =
-    ended_not_of_disk guarded (refused_as Policy) (λ fault of_disk. of_disk) source source'
-serial_not_of_disk Migrate source source' = ended_not_of_disk migrating no_refusal never_refused source source'
-
--- nor has the plant
-pub live_not_of_disk : (source source' sink sink' : Edge) (now : Status) →
-    PlantEnds source source' sink sink' now → IsOfDisk now → ⊥
-live_not_of_disk source source' sink sink' now ends =
-    ended_not_of_disk planted (refused_as Site) (λ fault of_disk. of_disk) source source' sink sink' now ends.job
+-- what is known of the result of a job on a kept plant is known of its status
+pub kept_ends : {D : Type 0} (output : List PlainEvent → Output Infallible) (source sink : Edges) (disk : Disks D)
+    (result : Result (Unit {0}) KeepFault) →
+    KeepEnds output (told_through (disk.tells.bytes disk.before) (disk.tells.bytes disk.after))
+    source.before source.after sink.before sink.after result →
+    ((all later : List ℕ) → disk.tells.bytes disk.before ≡ Some all → disk.tells.bytes disk.after ≡ Some later →
+    StandsForNone all → ¬ DiskFailed disk → IsUnopened result) →
+    IfErr result (λ fault. fault ≡ kept.Disk → DiskFailed disk) →
+    IfErr result (λ fault. (place : ℕ) → fault ≡ kept.NotAStore place →
+    (disk.tells.faults disk.after ≡ disk.tells.faults disk.before)
+    × IfSome (disk.tells.bytes disk.after) (λ all. IsNoStore all place)) →
+    ((place : ℕ) → status_of_kept result ≡ status.NotAStore place → source.Untouched × sink.Untouched) →
+    KeptEnds output source sink disk (status_of_kept result)
+kept_ends output source sink disk result ends unopened cause no_store untouched = record {
+  result = result;
+  told = refl;
+  ends = ends;
+  begins = λ all later told still none well. not_begun result (unopened all later told still none well);
+  disk_cause = on_disk_fault _ result cause;
+  no_store = λ place. on_no_store _ result place no_store;
+  untouched = untouched;
+}

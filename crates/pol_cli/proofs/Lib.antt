@@ -7,3 +7,5 @@ pub mod PlantEnding
 pub mod Auditing
 pub mod Told
 pub mod Keeping
+pub mod Unread
+pub mod Asked

@@ -1,6 +1,6 @@
 -- How the job plant ended, by how its input was read and its run was written.
 use Rattle.std.proofs.Common.{ℕ, ◌≡◌, ◌∙◌, List, [], ◌∷◌, ◌++◌, refl, sym, arith}
-use Rattle.std.specs.Prelude.{Option, None, Result, Ok, Err, ◌≢◌}
+use Rattle.std.specs.Prelude.{Option, None, Result, Ok, Err, IfErr, ◌≢◌}
 use Rattle.std.specs.declared.convert.Infallible.{Infallible}
 use Rattle.mtp_json.specs.declared.fault.JsonFault.{JsonFault}
 use Rattle.pol_io.specs.Causes.{HasCauseOf, Rose}
@@ -22,7 +22,9 @@ use Rattle.pol_cli.specs.SiteRuns.{PutsPart, PutsRun, RunWrites, planted}
 use Rattle.pol_cli.specs.SiteTexts.{Says, none_yet, site_work}
 use Rattle.pol_cli.specs.Statuses.{refused_as, status_of}
 use Rattle.pol_cli.specs.Tasks.{PlantEnds}
+use Rattle.pol_cli.specs.Worked.{Edges}
 use Rattle.pol_cli.specs.declared.status.Wanted.TheVariants.{Site}
+use Rattle.pol_cli.specs.declared.status.Status.TheVariants as status
 use Rattle.pol_cli.proofs.SiteTexts.{text_told}
 
 -- no line of a site text is refused
@@ -157,17 +159,32 @@ module _ (site : PlainSite) (source source' : Edge) (says : Between (Says (Ok si
 
 -- ---- its status
 
+-- where nothing was to be written yet, its status tells so
+begun_with : (Same : Type 0) (result : Result (Unit {0}) (JobFault JsonFault Infallible)) →
+    IfErr result (λ fault. fault ≢ Write → fault ≢ Memory → Same) →
+    status_of (refused_as Site) result ≢ status.Good → status_of (refused_as Site) result ≢ status.WriteFault →
+    status_of (refused_as Site) result ≢ status.OutOfMemory → Same
+begun_with Same (Ok done) same good write memory = absurd (good refl)
+begun_with Same (Err Read) same good write memory = same (λ is. cc) (λ is. cc)
+begun_with Same (Err Write) same good write memory = absurd (write refl)
+begun_with Same (Err Memory) same good write memory = absurd (memory refl)
+begun_with Same (Err TooMuch) same good write memory = same (λ is. cc) (λ is. cc)
+begun_with Same (Err (Failed never)) same good write memory = same (λ is. cc) (λ is. cc)
+begun_with Same (Err (Refused fault)) same good write memory = same (λ is. cc) (λ is. cc)
+
 -- what is known of the result is known of its status
-pub plant_ends : (source source' sink sink' : Edge) (result : Result (Unit {0}) (JobFault JsonFault Infallible)) →
-    Ends planted source source' sink sink' result →
-    RunWrites source.bytes source'.bytes sink.bytes sink'.bytes result →
-    PlantEnds source source' sink sink' (status_of (refused_as Site) result)
-plant_ends source source' sink sink' result ends writes = record {
+pub plant_ends : (source sink : Edges) (result : Result (Unit {0}) (JobFault JsonFault Infallible)) →
+    Ends planted source.before source.after sink.before sink.after result →
+    RunWrites source.before.bytes source.after.bytes sink.before.bytes sink.after.bytes result →
+    IfErr result (λ fault. fault ≢ Write → fault ≢ Memory → sink.Untouched) →
+    PlantEnds source sink (status_of (refused_as Site) result)
+plant_ends source sink result ends writes unbegun = record {
   job = record {
     result = result;
     told = refl;
     ends = ends;
-    complete = completes planted source source' sink sink' result ends;
+    complete = completes planted source.before source.after sink.before sink.after result ends;
   };
   writes = writes;
+  unbegun = begun_with sink.Untouched result unbegun;
 }

@@ -1,7 +1,7 @@
 -- The audit of a history: the lines of an input, what is kept of them, the output, and what a good verdict says.
-use Rattle.std.specs.Prelude.{ℕ, ◌≡◌, List, [], ◌∷◌, ◌++◌, length, map, reverse, if◌then◌else◌}
+use Rattle.std.specs.Prelude.{ℕ, ◌≡◌, List, [], ◌∷◌, ◌++◌, length, map, if◌then◌else◌}
 use Rattle.std.specs.declared.convert.Infallible.{Infallible}
-use Rattle.pol_events.specs.Events.{PlainEntry, PlainEvent}
+use Rattle.pol_events.specs.Events.{PlainEntry}
 use Rattle.pol_history.specs.Looking.{History}
 use Rattle.pol_history.specs.Runs.{events_of, run_of}
 use Rattle.pol_record.specs.Verdicts.{verdict_text}

@@ -1,24 +1,27 @@
 -- What the jobs on a kept plant leave on its disk.
-use Rattle.std.specs.Prelude.{ℕ, ◌≡◌, ◌⊎◌, List, Option, Some}
+use Rattle.std.specs.Prelude.{ℕ, ◌≡◌, ◌⊎◌, List, Some}
 use Rattle.pol_io.specs.Causes.{Rose}
-use Rattle.pol_keep.specs.Keeping.{Telling}
 use Rattle.pol_keep.specs.Leaving.{HoldsAll, HoldsOn, KeepsAllLines, KeepsLines}
 use Rattle.pol_store.specs.Stands.{StandsForNone}
+use Rattle.pol_cli.specs.Worked.{Disks, Edges}
 use Rattle.pol_cli.specs.declared.status.Status.{Status}
-use Rattle.pol_cli.specs.declared.status.Status.TheVariants.{Good, OutOfMemory, NotAStore}
+use Rattle.pol_cli.specs.declared.status.Status.TheVariants.{Good, OutOfMemory, DiskFault, NotAStore}
 
 -- From one state of the disk to another the events of an input were kept behind those that it read as, whatever a crash
 -- before might have left of it, and the sink took what it has now; and where all is good, those of all lines were.
-pub record KeepsInput {D : Type 0} (telling : Telling D) (before now : D) (left held held' : Option (List ℕ))
-    (status : Status) : Type 0 where
-  pub lines : KeepsLines telling before now left held held'
-  pub all : status ≡ Good → KeepsAllLines telling before now left
+pub record KeepsInput {D : Type 0} (source sink : Edges) (disk : Disks D) (status : Status) : Type 0 where
+  pub lines : KeepsLines disk.tells disk.before disk.after source.before.bytes sink.before.bytes sink.after.bytes
+  pub all : status ≡ Good → KeepsAllLines disk.tells disk.before disk.after source.before.bytes
 
 -- From one state of the disk to another nothing happened to the events that it read as, whatever a crash before might
 -- have left of it; and where all is good, each image at the end stands for them.
-pub record HoldsEvents {D : Type 0} (telling : Telling D) (before now : D) (status : Status) : Type 0 where
-  pub events : HoldsOn telling before now
-  pub all : status ≡ Good → HoldsAll telling before now
+pub record HoldsEvents {D : Type 0} (disk : Disks D) (status : Status) : Type 0 where
+  pub events : HoldsOn disk.tells disk.before disk.after
+  pub all : status ≡ Good → HoldsAll disk.tells disk.before disk.after
+
+-- the count of the disk's faults rose
+abbrev pub DiskFailed : {D : Type 0} → Disks D → Type 0
+DiskFailed disk = Rose (disk.tells.faults disk.before) (disk.tells.faults disk.after)
 
 -- the status tells that the disk is no store, or there was no memory
 abbrev pub IsNotBegun : Status → Type 0
@@ -26,7 +29,13 @@ IsNotBegun status = ((place : ℕ) × (status ≡ NotAStore place)) ⊎ (status 
 
 -- where the disk read as bytes that no list of events stands for, told its bytes to the end and didn't fail, nothing
 -- was begun
-abbrev pub BeginsOnStores : {D : Type 0} → Telling D → D → D → Status → Type 0
-BeginsOnStores telling before now status =
-    (all later : List ℕ) → telling.bytes before ≡ Some all → telling.bytes now ≡ Some later → StandsForNone all →
-    ¬ Rose (telling.faults before) (telling.faults now) → IsNotBegun status
+abbrev pub BeginsOnStores : {D : Type 0} → Disks D → Status → Type 0
+BeginsOnStores disk status =
+    (all later : List ℕ) → disk.tells.bytes disk.before ≡ Some all → disk.tells.bytes disk.after ≡ Some later →
+    StandsForNone all → ¬ DiskFailed disk → IsNotBegun status
+
+-- the status tells of the disk: it failed, or it is no store
+abbrev pub IsOfDisk : Status → Type 0
+IsOfDisk DiskFault = Unit {0}
+IsOfDisk (NotAStore place) = Unit {0}
+IsOfDisk _ = ⊥

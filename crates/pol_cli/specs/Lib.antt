@@ -5,3 +5,4 @@ pub mod SiteTexts
 pub mod SiteRuns
 pub mod Audits
 pub mod Keeping
+pub mod Worked

@@ -1,8 +1,8 @@
--- How a task ended: a row for each task.
-use Rattle.std.specs.Prelude.{ℕ, ◌≡◌, ◌⊎◌, List, [], Option, Result}
+-- How each task ended, a record for each, and what the words have to do with it.
+use Rattle.std.specs.Prelude.{ℕ, ◌≡◌, ◌≢◌, ◌⊎◌, List, [], Result, IfSome}
 use Rattle.std.specs.declared.convert.Infallible.{Infallible}
+use Rattle.pol_disk.specs.Disks.{told_through}
 use Rattle.pol_events.specs.Events.{PlainEvent}
-use Rattle.pol_io.specs.Edge.{Edge}
 use Rattle.pol_arguments.specs.Words.{Means}
 use Rattle.pol_arguments.specs.declared.SerialTask.{SerialTask}
 use Rattle.pol_arguments.specs.declared.SerialTask.TheVariants.{Replay, Demo, Audit, Find, Guard, Migrate}
@@ -12,63 +12,155 @@ use Rattle.pol_demo.specs.Summary.{demo_output}
 use Rattle.pol_jobs.specs.Ends.{Completes, Ends}
 use Rattle.pol_jobs.specs.LineWork.{Output, texts_of}
 use Rattle.pol_jobs.specs.declared.fault.JobFault.{JobFault}
-use Rattle.pol_cli.specs.Audits.{audited}
+use Rattle.pol_cli.specs.Audits.{AuditTheorem, audited}
 use Rattle.pol_find.specs.Finding.{found}
+use Rattle.pol_find.specs.Starts.{BindingsStart}
 use Rattle.pol_guard.specs.Guarded.{guarded}
-use Rattle.pol_keep.specs.Exported.{exported_output, no_input}
+use Rattle.pol_guard.specs.Laws.{GuardTheorem}
+use Rattle.pol_keep.specs.Exported.{exported_output}
 use Rattle.pol_keep.specs.Kept.{KeepEnds, kept_output}
 use Rattle.pol_keep.specs.declared.fault.KeepFault.{KeepFault}
 use Rattle.pol_migration.specs.Job.{migrating}
+use Rattle.pol_migration.specs.Migration.{MigrationKeepsOutputs}
 use Rattle.pol_replay.specs.Replay.{replayed}
+use Rattle.pol_store.specs.Opens.{IsNoStore}
+use Rattle.pol_cli.specs.Keeping.{BeginsOnStores, DiskFailed, HoldsEvents, IsOfDisk, KeepsInput}
 use Rattle.pol_cli.specs.SiteRuns.{RunWrites, planted}
 use Rattle.pol_cli.specs.Statuses.{no_refusal, refused_as, status_of, status_of_kept}
+use Rattle.pol_cli.specs.Worked.{Disks, Edges, no_source}
 use Rattle.pol_cli.specs.declared.status.Wanted.TheVariants.{Site, Policy}
 use Rattle.pol_cli.specs.declared.status.Status.{Status}
+use Rattle.pol_cli.specs.declared.status.Status.TheVariants.{Good, BadWords, WriteFault, OutOfMemory}
+use Rattle.pol_cli.specs.declared.status.Status.TheVariants.{DiskFault, NotAStore}
 
 -- the output of the demo of a seed: nothing for lines, and in all the summary of its journal
 abbrev pub demonstrated : ℕ → Output Infallible
 demonstrated seed = texts_of (λ lines. []) (λ input. demo_output seed)
 
--- How a job with this output ended, by its source and its sink before and after: with some result, whose status this is
--- and whose row of `Ends` holds; and where nothing failed the result is the one that is due.
+-- ---- how a job ended
+
+-- How a job with this output ended, by its source and its sink: with some result, whose status this is and whose row of
+-- `Ends` holds; and where nothing failed the result is the one that is due.
 pub record JobEnds {Reason : Type 0} (output : Output Reason) (refused : Reason → Status)
-    (source source' sink sink' : Edge) (status : Status) : Type 0 where
+    (source sink : Edges) (status : Status) : Type 0 where
   pub result : Result (Unit {0}) (JobFault Reason Infallible)
   pub told : status ≡ status_of refused result
-  pub ends : Ends output source source' sink sink' result
-  pub complete : Completes output source source' sink sink' result
+  pub ends : Ends output source.before source.after sink.before sink.after result
+  pub complete : Completes output source.before source.after sink.before sink.after result
 
--- the same of the plant, which tells a little more of what it wrote
-pub record PlantEnds (source source' sink sink' : Edge) (status : Status) : Type 0 where
-  pub job : JobEnds planted (refused_as Site) source source' sink sink' status
-  pub writes : RunWrites source.bytes source'.bytes sink.bytes sink'.bytes job.result
+-- how a demo of this seed ended
+pub record DemoEnds (seed : ℕ) (source sink : Edges) (status : Status) : Type 0 where
+  -- its output is that of no input, whatever the source has
+  pub job : JobEnds (demonstrated seed) no_refusal no_source sink status
+  -- the source isn't read
+  pub unread : source.Untouched
 
--- the same of a job on a kept plant, with this output of the old events, whose disk read as these bytes
-pub record KeptEnds (output : List PlainEvent → Output Infallible) (seen : Option (List ℕ))
-    (source source' sink sink' : Edge) (status : Status) : Type 0 where
+-- how an audit ended
+pub record AuditEnds (source sink : Edges) (status : Status) : Type 0 where
+  -- its output is the verdict over its input
+  pub job : JobEnds audited no_refusal source sink status
+  -- whatever the input: where the verdict is good, it spells a true history
+  pub audits : (bytes : List ℕ) → AuditTheorem bytes
+
+-- how a finder ended
+pub record FindEnds (source sink : Edges) (status : Status) : Type 0 where
+  -- its output is a binding or a shortage of each recipe of its input
+  pub job : JobEnds found no_refusal source sink status
+  -- after any history: a start with such a binding is done
+  pub bindings : BindingsStart
+
+-- how a guard ended
+pub record GuardEnds (source sink : Edges) (status : Status) : Type 0 where
+  -- its output is that of its journal under its policy; an input without one is refused
+  pub job : JobEnds guarded (refused_as Policy) source sink status
+  -- whatever the input: no command goes to the plant but those that the policy allows
+  pub guards : (bytes : List ℕ) → GuardTheorem bytes
+
+-- how a migration ended
+pub record MigrationEnds (source sink : Edges) (status : Status) : Type 0 where
+  -- its output is the journal of today that its input becomes
+  pub job : JobEnds migrating no_refusal source sink status
+  -- whatever the input: the new journal has the output of the old one, without its fault lines
+  pub migrations : MigrationKeepsOutputs
+
+-- how a plant ended
+pub record PlantEnds (source sink : Edges) (status : Status) : Type 0 where
+  -- its output is the history of a run of the site that its input says; an input that says none is refused
+  pub job : JobEnds planted (refused_as Site) source sink status
+  -- what it wrote, whether the source tells its bytes or not
+  pub writes : RunWrites source.before.bytes source.after.bytes sink.before.bytes sink.after.bytes job.result
+  -- nothing is written but at 0, and at 4 and 5, where some may be
+  pub unbegun : status ≢ Good → status ≢ WriteFault → status ≢ OutOfMemory → sink.Untouched
+
+-- ---- how a job on a kept plant ended
+
+-- How a job on a kept plant ended, with this output of the old events, by its source, its sink and its disk: with some
+-- result, whose status this is and whose row of `KeepEnds` holds.
+pub record KeptEnds {D : Type 0} (output : List PlainEvent → Output Infallible) (source sink : Edges) (disk : Disks D)
+    (status : Status) : Type 0 where
   pub result : Result (Unit {0}) KeepFault
   pub told : status ≡ status_of_kept result
-  pub ends : KeepEnds output seen source source' sink sink' result
+  pub ends : KeepEnds output (told_through (disk.tells.bytes disk.before) (disk.tells.bytes disk.after))
+      source.before source.after sink.before sink.after result
+  -- on a disk that is no store nothing is begun
+  pub begins : BeginsOnStores disk status
+  -- 10 only where the disk failed
+  pub disk_cause : status ≡ DiskFault → DiskFailed disk
+  -- 11 only where it didn't, and its bytes stand for no events: the first record that isn't one stands at this place
+  pub no_store : (place : ℕ) → status ≡ NotAStore place →
+      (disk.tells.faults disk.after ≡ disk.tells.faults disk.before)
+      × IfSome (disk.tells.bytes disk.after) (λ all. IsNoStore all place)
+  -- and then nothing was read or written
+  pub untouched : (place : ℕ) → status ≡ NotAStore place → source.Untouched × sink.Untouched
 
--- how a job of one thread ended: a demo on no input, whatever the source has, and each other one on its input
-abbrev pub SerialEnds : SerialTask → Edge → Edge → Edge → Edge → Status → Type 0
-SerialEnds Replay source source' sink sink' status = JobEnds replayed no_refusal source source' sink sink' status
-SerialEnds (Demo seed) source source' sink sink' status =
-    JobEnds (demonstrated seed) no_refusal no_input no_input sink sink' status
-SerialEnds Audit source source' sink sink' status = JobEnds audited no_refusal source source' sink sink' status
-SerialEnds Find source source' sink sink' status = JobEnds found no_refusal source source' sink sink' status
-SerialEnds Guard source source' sink sink' status = JobEnds guarded (refused_as Policy) source source' sink sink' status
-SerialEnds Migrate source source' sink sink' status = JobEnds migrating no_refusal source source' sink sink' status
+-- how a replay on a kept plant ended
+pub record KeepingEnds {D : Type 0} (source sink : Edges) (disk : Disks D) (status : Status) : Type 0 where
+  -- its output is that of a replay behind the events that the disk read as
+  pub job : KeptEnds kept_output source sink disk status
+  -- what the disk holds at the end, and what a crash at any moment leaves
+  pub keeps : KeepsInput source sink disk status
 
--- how a task ended, where the disk read as these bytes at first; the jobs on the kept plant alone look at it, and what
--- is exported needs no input
-abbrev pub TaskEnds : Task → Option (List ℕ) → Edge → Edge → Edge → Edge → Status → Type 0
-TaskEnds (Serial task) seen source source' sink sink' status = SerialEnds task source source' sink sink' status
-TaskEnds (Live task) seen source source' sink sink' status = PlantEnds source source' sink sink' status
-TaskEnds Keep seen source source' sink sink' status = KeptEnds kept_output seen source source' sink sink' status
-TaskEnds Export seen source source' sink sink' status =
-    KeptEnds exported_output seen no_input no_input sink sink' status
+-- how an export ended
+pub record ExportEnds {D : Type 0} (source sink : Edges) (disk : Disks D) (status : Status) : Type 0 where
+  -- its output is the journal of the events that the disk read as, and it needs no input
+  pub job : KeptEnds exported_output no_source sink disk status
+  -- nothing happens to these events, whenever a crash comes
+  pub holds : HoldsEvents disk status
+  -- the source isn't read
+  pub unread : source.Untouched
+
+-- ---- how a task ended
+
+-- how a job of one thread ended
+abbrev pub SerialEnds : SerialTask → Edges → Edges → Status → Type 0
+SerialEnds Replay source sink status = JobEnds replayed no_refusal source sink status
+SerialEnds (Demo seed) source sink status = DemoEnds seed source sink status
+SerialEnds Audit source sink status = AuditEnds source sink status
+SerialEnds Find source sink status = FindEnds source sink status
+SerialEnds Guard source sink status = GuardEnds source sink status
+SerialEnds Migrate source sink status = MigrationEnds source sink status
+
+-- how a task ended; the jobs on the kept plant alone look at the disk
+abbrev pub TaskEnds : {D : Type 0} → Task → Edges → Edges → Disks D → Status → Type 0
+TaskEnds (Serial task) source sink disk status = SerialEnds task source sink status
+TaskEnds (Live task) source sink disk status = PlantEnds source sink status
+TaskEnds Keep source sink disk status = KeepingEnds source sink disk status
+TaskEnds Export source sink disk status = ExportEnds source sink disk status
+
+-- ---- what the words have to do with it
 
 -- the words ask for a job on the kept plant
 abbrev pub AskForKept : List (List ℕ) → Type 0
 AskForKept words = Means words Keep ⊎ Means words Export
+
+-- Which status comes where the words mean a task, and where they mean none.
+pub record GoesByWords (words : List (List ℕ)) (source sink : Edges) (status : Status) : Type 0 where
+  -- one other than 2 and 5 comes only where they mean a task
+  pub meant : status ≢ BadWords → status ≢ OutOfMemory → (task : Task) × Means words task
+  -- 2 comes only where they mean none
+  pub bad_words : status ≡ BadWords → (task : Task) → Means words task → ⊥
+  -- where they mean none 2 comes, or 5 for want of memory, and source and sink are as they were
+  pub refused : ((task : Task) → Means words task → ⊥) →
+      ((status ≡ BadWords) ⊎ (status ≡ OutOfMemory)) × source.Untouched × sink.Untouched
+  -- 10 and 11 come only where they ask for a job on the kept plant
+  pub of_disk : IsOfDisk status → AskForKept words

@@ -1,12 +1,8 @@
 //! The jobs.
-ghost use Rattle.std.specs.Prelude.{◌≡◌, ℕ, List};
-ghost use Rattle.pol_jobs.specs.Ends.{edge};
-ghost use Rattle.pol_find.specs.Starts.{BindingsStart};
-ghost use Rattle.pol_guard.specs.Laws.{GuardTheorem};
-ghost use Rattle.pol_migration.specs.Migration.{MigrationKeepsOutputs};
-ghost use Rattle.pol_cli.specs.Audits.{AuditTheorem};
+ghost use Rattle.std.specs.Prelude.{ℕ, List};
 ghost use Rattle.pol_cli.specs.Journal.{JournalTheorem, Laws};
 ghost use Rattle.pol_cli.specs.Tasks.{SerialEnds};
+ghost use Rattle.pol_cli.specs.Worked.{edges};
 
 mod auditing;
 mod demo;
@@ -15,7 +11,7 @@ mod keeping;
 mod plant;
 mod site_text;
 
-use crate::journal::{audits_are_sound, journals_are_sound};
+use crate::laws::laws_hold;
 use crate::status::{Status, Wanted, status_of, status_wanting};
 use auditing::Auditing;
 use demo::demonstrate;
@@ -23,11 +19,11 @@ pub use exporting::export;
 pub use keeping::keep;
 pub use plant::live;
 use pol_arguments::SerialTask;
-use pol_find::{Finding, bindings_start};
-use pol_guard::{Guarding, guards_are_sound};
+use pol_find::Finding;
+use pol_guard::Guarding;
 use pol_io::{Sink, Source};
 use pol_jobs::work;
-use pol_migration::{Migrating, migration_keeps_outputs};
+use pol_migration::Migrating;
 use pol_replay::Replay;
 use std::alloc::Global;
 
@@ -42,22 +38,12 @@ pub fn serve<S: Source, K: Sink>(
     source: &mut S,
     sink: &mut K,
 ) -> Status
-    ensures ends { SerialEnds task.now
-        (edge (S.left source.old) (S.faults source.old)) (edge (S.left source.new) (S.faults source.new))
-        (edge (K.held sink.old) (K.faults sink.old)) (edge (K.held sink.new) (K.faults sink.new)) result }
-    ensures unread { (seed : ℕ) → task.now ≡ SerialTask.Demo seed → source.new ≡ source.old }
+    ensures ends { SerialEnds task.now (edges S.left S.faults source.old source.new)
+        (edges K.held K.faults sink.old sink.new) result }
     ensures theorem { (bytes : List ℕ) → JournalTheorem bytes }
     ensures laws { Laws }
-    ensures audits { (bytes : List ℕ) → AuditTheorem bytes }
-    ensures guards { (bytes : List ℕ) → GuardTheorem bytes }
-    ensures migrations { MigrationKeepsOutputs }
-    ensures bindings { BindingsStart }
 {
-    journals_are_sound();
-    audits_are_sound();
-    guards_are_sound();
-    migration_keeps_outputs();
-    bindings_start();
+    laws_hold();
     match task {
         SerialTask::Replay => status_of(work(alloc, &mut Replay::new(alloc), source, sink)),
         SerialTask::Demo(seed) => status_of(demonstrate(alloc, *seed, sink)),

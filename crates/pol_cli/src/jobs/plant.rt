@@ -15,9 +15,10 @@ ghost use Rattle.pol_retold.specs.Retold.{IsRetold};
 ghost use Rattle.pol_cli.specs.SiteRuns.{AreReadBack, AreRetold, IsRunOf, RunWrites, entries_text, entry_lines};
 ghost use Rattle.pol_cli.specs.SiteRuns.{planted};
 ghost use Rattle.pol_cli.specs.Tasks.{PlantEnds};
+ghost use Rattle.pol_cli.specs.Worked.{edges};
 
 use crate::jobs::site_text::read_text;
-use crate::journal::journals_are_sound;
+use crate::laws::laws_hold;
 use crate::status::{Status, Wanted, status_wanting};
 use mtp_json::JsonFault;
 use pol_arguments::LiveTask;
@@ -151,14 +152,11 @@ pub fn live<R: Threads + Wait + Sync, S: Source, K: Sink, C: Clock + Send, G: Ga
     clock: C,
     gate: &G,
 ) -> Status
-    ensures ends { PlantEnds
-        (edge (S.left source.old) (S.faults source.old)) (edge (S.left source.new) (S.faults source.new))
-        (edge (K.held sink.old) (K.faults sink.old)) (edge (K.held sink.new) (K.faults sink.new)) result }
-    ensures unbegun { result ≢ Status.Good → result ≢ Status.WriteFault → result ≢ Status.OutOfMemory
-        → sink.new ≡ sink.old }
+    ensures ends { PlantEnds (edges S.left S.faults source.old source.new)
+        (edges K.held K.faults sink.old sink.new) result }
     ensures laws { Laws }
 {
-    journals_are_sound();
+    laws_hold();
     let done = read_and_run(rt, alloc, task.watchers, source, sink, clock, gate);
     status_wanting(Wanted::Site, done)
 }

@@ -1,31 +1,14 @@
-use Rattle.std.proofs.Common.{refl}
-use Rattle.pol_cli.proofs.Keeping.{not_begun, on_disk_fault, on_good, on_no_store}
+use Rattle.pol_keep.specs.Kept.{kept_output}
+use Rattle.pol_cli.proofs.Keeping.{kept_ends, on_good, on_no_store}
 use Rattle.pol_cli.proofs.jobs.keeping.keep.Goals as goal
 
-pub returns-clause-ends : goal.returns-clause-ends
-returns-clause-ends g c =
-    rw c.status_of_kept.ensures (record { result = c.keep-done.result.0; told = refl; ends = c.keep-done.ensures.ends })
-
-pub returns-clause-keeps : goal.returns-clause-keeps
-returns-clause-keeps g c =
-    rw c.status_of_kept.ensures (record {
-      lines = c.keep-done.ensures.keeps;
-      all = on_good _ c.keep-done.result.0 c.keep-done.ensures.keeps_all;
-    })
-
-pub returns-clause-begins : goal.returns-clause-begins
-returns-clause-begins g c =
-    rw c.status_of_kept.ensures (λ all later told still none well. not_begun c.keep-done.result.0
-    (c.keep-done.ensures.unopened all later told still none well))
-
-pub returns-clause-disk_cause : goal.returns-clause-disk_cause
-returns-clause-disk_cause g c =
-    rw c.status_of_kept.ensures (on_disk_fault _ c.keep-done.result.0 c.keep-done.ensures.disk_cause)
-
-pub returns-clause-no_store : goal.returns-clause-no_store
-returns-clause-no_store g c =
-    rw c.status_of_kept.ensures (λ place. on_no_store _ c.keep-done.result.0 place c.keep-done.ensures.no_store)
-
-pub returns-clause-untouched : goal.returns-clause-untouched
-returns-clause-untouched g c =
-    rw c.status_of_kept.ensures (λ place. on_no_store _ c.keep-done.result.0 place c.keep-done.ensures.unread)
+pub returns : goal.returns
+returns g c =
+    let kept = c.keep-done.ensures in
+    record {
+      ends = rw c.status_of_kept.ensures (record {
+        job = kept_ends kept_output _ _ _ c.keep-done.result.0 kept.ends kept.unopened kept.disk_cause kept.no_store
+            (λ place. on_no_store _ c.keep-done.result.0 place kept.unread);
+        keeps = record { lines = kept.keeps; all = on_good _ c.keep-done.result.0 kept.keeps_all };
+      });
+    }

@@ -1,5 +1,6 @@
+use Rattle.pol_cli.proofs.Auditing.{audit_theorem}
 use Rattle.pol_cli.proofs.Journals.{journal}
-use Rattle.pol_cli.proofs.journal.journals_are_sound.Goals as goal
+use Rattle.pol_cli.proofs.laws.laws_hold.Goals as goal
 
 pub returns-clause-theorem : goal.returns-clause-theorem
 returns-clause-theorem c =
@@ -15,3 +16,8 @@ returns-clause-laws c = record {
   charts = c.logs_follow_charts.ensures;
   removal = c.removal_of_events.ensures;
 }
+
+pub returns-clause-audits : goal.returns-clause-audits
+returns-clause-audits c =
+    audit_theorem c.histories_are_sound.ensures.histories c.histories_are_sound.ensures.entries
+    c.removal_of_events.ensures c.good_verdicts_are_true.ensures

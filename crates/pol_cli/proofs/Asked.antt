@@ -1,0 +1,152 @@
+-- The one task that the words mean, and which statuses it can't end with.
+use Rattle.std.proofs.Common.{ℕ, ◌≡◌, ◌∙◌, List, refl, subst, sym, inl, inr}
+use Rattle.std.specs.Prelude.{Result, Ok, Err}
+use Rattle.std.specs.declared.convert.Infallible.{Infallible}
+use Rattle.pol_arguments.specs.Words.{Means}
+use Rattle.pol_arguments.specs.declared.LiveTask.{LiveTask}
+use Rattle.pol_arguments.specs.declared.SerialTask.{SerialTask}
+use Rattle.pol_arguments.specs.declared.SerialTask.TheVariants.{Replay, Demo, Audit, Find, Guard, Migrate}
+use Rattle.pol_arguments.specs.declared.Task.{Task}
+use Rattle.pol_arguments.specs.declared.Task.TheVariants.{Serial, Live}
+use Rattle.pol_arguments.proofs.Meaning.{one_task}
+use Rattle.pol_jobs.specs.LineWork.{Output}
+use Rattle.pol_jobs.specs.declared.fault.JobFault.{JobFault}
+use Rattle.pol_jobs.specs.declared.fault.JobFault.TheVariants as job
+use Rattle.pol_keep.specs.declared.fault.KeepFault.{KeepFault}
+use Rattle.pol_keep.specs.declared.fault.KeepFault.TheVariants as kept
+use Rattle.pol_cli.specs.Keeping.{IsOfDisk}
+use Rattle.pol_cli.specs.Statuses.{no_refusal, refused_as, status_of, status_of_kept}
+use Rattle.pol_cli.specs.Tasks.{AskForKept, GoesByWords, JobEnds, PlantEnds, SerialEnds, TaskEnds}
+use Rattle.pol_cli.specs.Worked.{Disks, Edges}
+use Rattle.pol_cli.specs.declared.status.Wanted.TheVariants.{Site, Policy}
+use Rattle.pol_cli.specs.declared.status.Status.{Status}
+use Rattle.pol_cli.specs.declared.status.Status.TheVariants as status
+
+-- what holds of a task that the words mean holds of each that they mean
+pub ends_as : {D : Type 0} (words : List (List ℕ)) (one : Task) (source sink : Edges) (disk : Disks D)
+    (status : Status) → Means words one → TaskEnds one source sink disk status → (task : Task) → Means words task →
+    TaskEnds task source sink disk status
+ends_as words one source sink disk status means ends task other =
+    subst (λ task. TaskEnds task source sink disk status) (one_task words one task means other) ends
+
+-- ---- statuses
+
+-- no job over lines ends so: bad words, or of the disk
+abbrev IsOfNoJob : Status → Type 0
+IsOfNoJob status.BadWords = Unit {0}
+IsOfNoJob status.DiskFault = Unit {0}
+IsOfNoJob (status.NotAStore place) = Unit {0}
+IsOfNoJob _ = ⊥
+
+-- the statuses of the disk are such
+disk_no_jobs : (now : Status) → IsOfDisk now → IsOfNoJob now
+disk_no_jobs status.Good of_disk = of_disk
+disk_no_jobs status.BadWords of_disk = tt
+disk_no_jobs status.ReadFault of_disk = of_disk
+disk_no_jobs status.WriteFault of_disk = of_disk
+disk_no_jobs status.OutOfMemory of_disk = of_disk
+disk_no_jobs status.TooMuchInput of_disk = of_disk
+disk_no_jobs (status.BadSite path fault) of_disk = of_disk
+disk_no_jobs (status.BadPolicy path fault) of_disk = of_disk
+disk_no_jobs status.DiskFault of_disk = tt
+disk_no_jobs (status.NotAStore place) of_disk = tt
+
+-- nothing that can't come is one of them
+never_refused : (reason : Infallible) → IsOfNoJob (no_refusal reason) → ⊥
+never_refused = elim [ ]
+
+-- a result of a job is none of them, where no refusal is
+not_of_result : {Reason : Type 0} (refused : Reason → Status) → ((reason : Reason) → IsOfNoJob (refused reason) → ⊥) →
+    (result : Result (Unit {0}) (JobFault Reason Infallible)) → IsOfNoJob (status_of refused result) → ⊥
+not_of_result refused never (Ok done) none = none
+not_of_result refused never (Err job.Read) none = none
+not_of_result refused never (Err job.Write) none = none
+not_of_result refused never (Err job.Memory) none = none
+not_of_result refused never (Err job.TooMuch) none = none
+not_of_result refused never (Err (job.Failed nothing)) none = never_refused nothing none
+not_of_result refused never (Err (job.Refused reason)) none = never reason none
+
+-- nor is one that ended
+not_of_job : {Reason : Type 0} (output : Output Reason) (refused : Reason → Status) →
+    ((reason : Reason) → IsOfNoJob (refused reason) → ⊥) → (source sink : Edges) (now : Status) →
+    JobEnds output refused source sink now → IsOfNoJob now → ⊥
+not_of_job output refused never source sink now ends none =
+    not_of_result refused never ends.result (subst IsOfNoJob ends.told none)
+
+-- a job of one thread has none of them
+not_of_serial : (task : SerialTask) (source sink : Edges) (now : Status) → SerialEnds task source sink now →
+    IsOfNoJob now → ⊥
+not_of_serial Replay source sink now ends = not_of_job _ no_refusal never_refused source sink now ends
+not_of_serial (Demo seed) source sink now ends = not_of_job _ no_refusal never_refused _ sink now ends.job
+not_of_serial Audit source sink now ends = not_of_job _ no_refusal never_refused source sink now ends.job
+not_of_serial Find source sink now ends = not_of_job _ no_refusal never_refused source sink now ends.job
+not_of_serial Guard source sink now ends =
+    not_of_job _ (refused_as Policy) (λ fault none. none) source sink now ends.job
+not_of_serial Migrate source sink now ends = not_of_job _ no_refusal never_refused source sink now ends.job
+
+-- nor has a plant
+not_of_plant : (source sink : Edges) (now : Status) → PlantEnds source sink now → IsOfNoJob now → ⊥
+not_of_plant source sink now ends = not_of_job _ (refused_as Site) (λ fault none. none) source sink now ends.job
+
+-- a job on a kept plant doesn't find bad words
+no_bad_words : (result : Result (Unit {0}) KeepFault) → status_of_kept result ≡ status.BadWords → ⊥
+no_bad_words (Ok done) is = cc
+no_bad_words (Err kept.Read) is = cc
+no_bad_words (Err kept.Write) is = cc
+no_bad_words (Err kept.Memory) is = cc
+no_bad_words (Err kept.TooMuch) is = cc
+no_bad_words (Err kept.Disk) is = cc
+no_bad_words (Err (kept.NotAStore place)) is = cc
+
+-- ---- what the words have to do with the status
+
+module _ (words : List (List ℕ)) (source sink : Edges) (now : Status) where
+  -- where they mean a task
+  meant_by : (task : Task) → Means words task → (now ≡ status.BadWords → ⊥) → (IsOfDisk now → AskForKept words) →
+      GoesByWords words source sink now
+  meant_by task means not_bad of_disk = record {
+    meant = λ other enough. (task, means);
+    bad_words = λ bad. absurd (not_bad bad);
+    refused = λ none. absurd (none task means);
+    of_disk = of_disk;
+  }
+
+  -- one that doesn't look at the disk
+  by_job : (task : Task) → Means words task → (IsOfNoJob now → ⊥) → GoesByWords words source sink now
+  by_job task means never =
+      meant_by task means (λ bad. never (subst IsOfNoJob (sym bad) tt))
+      (λ of_disk. absurd (never (disk_no_jobs now of_disk)))
+
+  pub by_serial : (task : SerialTask) → Means words (Serial task) → SerialEnds task source sink now →
+      GoesByWords words source sink now
+  by_serial task means ends = by_job (Serial task) means (not_of_serial task source sink now ends)
+
+  pub by_live : (task : LiveTask) → Means words (Live task) → PlantEnds source sink now →
+      GoesByWords words source sink now
+  by_live task means ends = by_job (Live task) means (not_of_plant source sink now ends)
+
+  -- one on the kept plant
+  pub by_kept : (task : Task) → Means words task → AskForKept words → (result : Result (Unit {0}) KeepFault) →
+      now ≡ status_of_kept result → GoesByWords words source sink now
+  by_kept task means asks result told =
+      meant_by task means (λ bad. no_bad_words result (sym told ∙ bad)) (λ of_disk. asks)
+
+-- where they mean none
+pub by_none : (words : List (List ℕ)) (source sink : Edges) → ((task : Task) → Means words task → ⊥) →
+    source.Untouched → sink.Untouched → GoesByWords words source sink status.BadWords
+by_none words source sink none source_same sink_same = record {
+  meant = λ good memory. absurd (good refl);
+  bad_words = λ bad. none;
+  refused = λ none. (inl refl, source_same, sink_same);
+  of_disk = λ of_disk. absurd of_disk;
+}
+
+-- where there was no memory to read them
+pub by_no_memory : (words : List (List ℕ)) (source sink : Edges) → source.Untouched → sink.Untouched →
+    GoesByWords words source sink status.OutOfMemory
+by_no_memory words source sink source_same sink_same = record {
+  meant = λ good memory. absurd (memory refl);
+  bad_words = λ bad task means. cc;
+  refused = λ none. (inr refl, source_same, sink_same);
+  of_disk = λ of_disk. absurd of_disk;
+}

@@ -1,0 +1,144 @@
+-- Where there was no memory to read the words, each task ended as one that had none: nothing was begun.
+use Rattle.std.proofs.Common.{ℕ, ◌≡◌, ◌⊎◌, List, refl, inl, inr}
+use Rattle.std.specs.Prelude.{Err}
+use Rattle.std.specs.declared.convert.Infallible.{Infallible}
+use Rattle.pol_arguments.specs.declared.SerialTask.{SerialTask}
+use Rattle.pol_arguments.specs.declared.SerialTask.TheVariants.{Replay, Demo, Audit, Find, Guard, Migrate}
+use Rattle.pol_arguments.specs.declared.Task.{Task}
+use Rattle.pol_arguments.specs.declared.Task.TheVariants.{Serial, Live, Keep, Export}
+use Rattle.pol_disk.proofs.Moments.{started}
+use Rattle.pol_events.specs.Events.{PlainEvent}
+use Rattle.pol_io.specs.Edge.{Edge}
+use Rattle.pol_io.proofs.Known.{Keeps_refl}
+use Rattle.pol_jobs.specs.LineWork.{Output}
+use Rattle.pol_jobs.specs.declared.fault.JobFault.TheVariants.{Memory}
+use Rattle.pol_jobs.proofs.Serving.{nothing_leaves}
+use Rattle.pol_find.specs.Finding.{found}
+use Rattle.pol_find.specs.Starts.{BindingsStart}
+use Rattle.pol_guard.specs.Guarded.{guarded}
+use Rattle.pol_guard.specs.Laws.{GuardTheorem}
+use Rattle.pol_keep.specs.Exported.{exported_output, no_input}
+use Rattle.pol_keep.specs.Keeping.{Telling}
+use Rattle.pol_keep.specs.Kept.{StandsForMore, kept_output}
+use Rattle.pol_keep.proofs.Ended.{of_input}
+use Rattle.pol_keep.specs.declared.fault.KeepFault.TheVariants as kept
+use Rattle.pol_migration.specs.Job.{migrating}
+use Rattle.pol_migration.specs.Migration.{MigrationKeepsOutputs}
+use Rattle.pol_replay.specs.Replay.{replayed}
+use Rattle.pol_store.specs.Stands.{StandsFor}
+use Rattle.pol_cli.specs.Audits.{AuditTheorem, audited}
+use Rattle.pol_cli.specs.SiteRuns.{planted}
+use Rattle.pol_cli.specs.Statuses.{no_refusal, refused_as}
+use Rattle.pol_cli.specs.Tasks.{ExportEnds, JobEnds, KeepingEnds, KeptEnds, SerialEnds, TaskEnds, demonstrated}
+use Rattle.pol_cli.specs.Worked.{Disks, Edges}
+use Rattle.pol_cli.specs.declared.status.Wanted.TheVariants.{Site, Policy}
+use Rattle.pol_cli.specs.declared.status.Status.{Status}
+use Rattle.pol_cli.specs.declared.status.Status.TheVariants as status
+use Rattle.pol_cli.proofs.Ending.{job_ends}
+
+-- what the records say of the jobs' laws
+pub record JobLaws : Type 0 where
+  pub audits : (bytes : List ℕ) → AuditTheorem bytes
+  pub guards : (bytes : List ℕ) → GuardTheorem bytes
+  pub migrations : MigrationKeepsOutputs
+  pub bindings : BindingsStart
+
+-- a source or a sink that was left as it was
+abbrev pub rested : Edge → (Same : Type 0) → Edges
+rested edge Same = record { before = edge; after = edge; Untouched = Same }
+
+-- a disk that was
+abbrev pub rested_disk : {D : Type 0} → Telling D → D → Disks D
+rested_disk tells disk = record { tells = tells; before = disk; after = disk }
+
+-- with no memory all isn't good, the disk didn't fail, and it isn't told to be no store
+not_good : status.OutOfMemory ≡ status.Good → ⊥
+not_good is = cc
+
+not_failed : status.OutOfMemory ≡ status.DiskFault → ⊥
+not_failed is = cc
+
+not_stored : (place : ℕ) → status.OutOfMemory ≡ status.NotAStore place → ⊥
+not_stored place is = cc
+
+module _ (source sink : Edge) (SameSource SameSink : Type 0) (source_same : SameSource) (sink_same : SameSink) where
+  -- a job over lines
+  no_memory_ends : {Reason : Type 0} (output : Output Reason) (refused : Reason → Status) (source : Edge)
+      (Same : Type 0) →
+      JobEnds output refused (rested source Same) (rested sink SameSink) status.OutOfMemory
+  no_memory_ends output refused source Same =
+      job_ends output output refused (rested source Same) (rested sink SameSink) (Err Memory) refl
+      (nothing_leaves output sink.bytes source.bytes, refl, refl)
+
+  -- one of one thread
+  serial_unbegun : JobLaws → (task : SerialTask) →
+      SerialEnds task (rested source SameSource) (rested sink SameSink) status.OutOfMemory
+  unfolding no_memory_ends job_ends
+  serial_unbegun laws Replay = no_memory_ends replayed no_refusal source SameSource
+  serial_unbegun laws (Demo seed) =
+      record { job = no_memory_ends (demonstrated seed) no_refusal no_input (Unit {0}); unread = source_same }
+  serial_unbegun laws Audit =
+      record { job = no_memory_ends audited no_refusal source SameSource; audits = laws.audits }
+  serial_unbegun laws Find =
+      record { job = no_memory_ends found no_refusal source SameSource; bindings = laws.bindings }
+  serial_unbegun laws Guard =
+      record { job = no_memory_ends guarded (refused_as Policy) source SameSource; guards = laws.guards }
+  serial_unbegun laws Migrate =
+      record { job = no_memory_ends migrating no_refusal source SameSource; migrations = laws.migrations }
+
+  module _ {D : Type 0} (tells : Telling D) (disk : D)
+      (only_now : (image : List ℕ) → tells.left_since disk (tells.moment disk) image → tells.images disk image) where
+    -- one on a kept plant
+    kept_unbegun : (output : List PlainEvent → Output Infallible) (source : Edge) (Same : Type 0) → Same →
+        KeptEnds output (rested source Same) (rested sink SameSink) (rested_disk tells disk) status.OutOfMemory
+    kept_unbegun output source Same same = record {
+      result = Err kept.Memory;
+      told = refl;
+      ends = inl (refl, refl);
+      begins = λ all later told still none well. inr refl;
+      disk_cause = λ is. absurd (not_failed is);
+      no_store = λ place is. absurd (not_stored place is);
+      untouched = λ place is. (same, sink_same);
+    }
+
+    -- the replay there
+    keeping_unbegun : KeepingEnds (rested source SameSource) (rested sink SameSink) (rested_disk tells disk)
+        status.OutOfMemory
+    keeping_unbegun = record {
+      job = kept_unbegun kept_output source SameSource source_same;
+      keeps = record {
+        lines = record {
+          moments = λ old reads told. of_input source.bytes _ (λ input. started tells.moment tells.left_since disk
+              (λ image. tells.images disk image ⊎ StandsForMore old input image)
+              (λ image since. inl (only_now image since)));
+          kept = λ old reads told. of_input source.bytes _ (λ input image crash. inl (refl, crash));
+        };
+        all = λ good. absurd (not_good good);
+      };
+    }
+
+    -- an export
+    export_unbegun : ExportEnds (rested source SameSource) (rested sink SameSink) (rested_disk tells disk)
+        status.OutOfMemory
+    export_unbegun = record {
+      job = kept_unbegun exported_output no_input (Unit {0}) tt;
+      holds = record {
+        events = λ old reads told. started tells.moment tells.left_since disk
+            (λ image. tells.images disk image ⊎ StandsFor old image) (λ image since. inl (only_now image since));
+        all = λ good. absurd (not_good good);
+      };
+      unread = source_same;
+    }
+
+    -- any task
+    pub unbegun_ends : JobLaws → (task : Task) →
+        TaskEnds task (rested source SameSource) (rested sink SameSink) (rested_disk tells disk) status.OutOfMemory
+    unfolding no_memory_ends job_ends
+    unbegun_ends laws (Serial task) = serial_unbegun laws task
+    unbegun_ends laws (Live task) = record {
+      job = no_memory_ends planted (refused_as Site) source SameSource;
+      writes = inl (Keeps_refl sink.bytes);
+      unbegun = λ good write memory. absurd (memory refl);
+    }
+    unbegun_ends laws Keep = keeping_unbegun
+    unbegun_ends laws Export = export_unbegun

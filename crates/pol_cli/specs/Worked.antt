@@ -1,0 +1,37 @@
+-- What a call works on, as it was before and as it is after: a source, a sink, a disk.
+use Rattle.std.specs.Prelude.{ℕ, ◌≡◌, List, Option}
+use Rattle.pol_io.specs.Edge.{Edge}
+use Rattle.pol_jobs.specs.Ends.{edge}
+use Rattle.pol_keep.specs.Exported.{no_input}
+use Rattle.pol_keep.specs.Keeping.{Telling, telling}
+
+-- a source or a sink: what is known of its bytes and of its faults, and that it is just what it was
+pub record Edges : Type 1 where
+  pub before : Edge
+  pub after : Edge
+  pub Untouched : Type 0
+
+-- those of one whose kind tells this
+abbrev pub edges : {T : Type 0} → (T → Option (List ℕ)) → (T → ℕ) → T → T → Edges
+edges bytes faults before after =
+    record {
+      before = edge (bytes before) (faults before);
+      after = edge (bytes after) (faults after);
+      Untouched = after ≡ before;
+    }
+
+-- a source that no one looks at: an input without a byte
+abbrev pub no_source : Edges
+no_source = record { before = no_input; after = no_input; Untouched = Unit {0} }
+
+-- a disk, and what its kind tells
+pub record Disks (D : Type 0) : Type 1 where
+  pub tells : Telling D
+  pub before : D
+  pub after : D
+
+-- the same, by all that the kind tells
+abbrev pub disks : {D : Type 0} → (D → Option (List ℕ)) → (D → List ℕ → Type 0) → (D → ℕ)
+    → (D → ℕ → List ℕ → Type 0) → (D → ℕ) → D → D → Disks D
+disks bytes images moment left_since faults before after =
+    record { tells = telling bytes images moment left_since faults; before = before; after = after }
