@@ -4,6 +4,9 @@
 //! behind its settings, and the condition of a loop behind its node. All other lines are read by `read_event`, which
 //! tells each fault; `read_fault` tells those of most flat lines sooner.
 //!
+//! A journal's lines have one of three forms, each an implementer of `LineForm`: those of a journal, those of one under
+//! a policy, in which a command of the desk names who gives it, and those of version 1.
+//!
 //! `read_line` has the contract of `read_event`. What stands below it is sound and not complete: each reader says that
 //! the text begins with what JSON writes of a value (`specs/Begins.antt`), of which the form gives what was found. An
 //! object is read member by member, from cut to cut (`specs/Objects.antt`).
