@@ -1,5 +1,5 @@
 pub mod Tokens
-pub mod Met
+pub mod Meant
 pub mod Working
 pub mod Sound
 pub mod Refusing

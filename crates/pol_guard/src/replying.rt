@@ -85,7 +85,7 @@ fn answer(
 /// Puts the line that comes of a line behind what a buffer holds: of its fault, of the denial of what it asks, or of
 /// the plant's answer to its event; nothing, where it is blank. A line that is denied or at fault leaves the history as
 /// it was.
-#[tactic(auto, using(crate::proofs::Met::text_read, crate::proofs::Met::history_read))]
+#[tactic(auto, using(crate::proofs::Meant::text_read, crate::proofs::Meant::history_read))]
 pub fn reply_to(
     alloc: Global,
     policy: &Policy,

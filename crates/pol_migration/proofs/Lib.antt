@@ -2,4 +2,4 @@ pub mod FreezeText
 pub mod Lines
 pub mod Outputs
 pub mod Replies
-pub mod Met
+pub mod Meant

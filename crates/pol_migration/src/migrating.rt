@@ -30,7 +30,7 @@ fn put_event(alloc: Global, line: &[u8], event: &Event, out: &mut Vec<u8>) -> Re
 }
 
 // Puts what a line becomes behind what a buffer holds.
-#[tactic(auto, using(crate::proofs::Met::line_read))]
+#[tactic(auto, using(crate::proofs::Meant::line_read))]
 fn put_line(alloc: Global, line: InputLine<'_>, out: &mut Vec<u8>) -> Result<(), AllocError>
     ensures { OnOk result (out.new.items ≡ out.old.items ++ migrated_met (plain_line line.entry)) }
 {
