@@ -6,4 +6,4 @@ pub returns-in-Ok-clause-admits : goal.returns-in-Ok-clause-admits
 returns-in-Ok-clause-admits g c =
     let did = c.in-Ok.ensures in
     admitted c.args.store.now c.admit.new.self (plain_event c.args.event) did.uncalled did.closed did.history did.waits
-    true
+    _
