@@ -30,6 +30,7 @@ use pol_record::put_entry_line;
 use pol_replay::close;
 use pol_site::Site;
 use std::alloc::{AllocError, Global};
+use std::convert::Infallible;
 use std::sync::Wait;
 use std::thread::Threads;
 
