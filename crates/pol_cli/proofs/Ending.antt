@@ -20,7 +20,7 @@ use Rattle.pol_cli.specs.Worked.{Edges}
 use Rattle.pol_cli.specs.declared.status.Status.{Status}
 
 -- a job whose output is the defined one ended as its lines did
-pub job_ends : {Reason : Type 0} (by output : Output Reason) (refused : Reason → Status) (source sink : Edges)
+unfoldable pub job_ends : {Reason : Type 0} (by output : Output Reason) (refused : Reason → Status) (source sink : Edges)
     (result : Result (Unit {0}) (JobFault Reason Infallible)) → by ≡ output →
     Ends by source.before source.after sink.before sink.after result →
     JobEnds output refused source sink (status_of refused result)
