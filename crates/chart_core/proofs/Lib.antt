@@ -1,4 +1,5 @@
 pub mod Counts
+pub mod Seeking
 pub mod Items
 pub mod Growing
 pub mod Formed

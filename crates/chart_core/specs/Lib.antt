@@ -13,6 +13,7 @@ pub mod Courses
 pub mod Runs
 pub mod Valid
 pub mod Walks
+pub mod Seeking
 pub mod Progress
 pub mod Changes
 pub mod Following

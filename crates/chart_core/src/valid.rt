@@ -1,5 +1,5 @@
 //! Whether a chart is valid.
-ghost use Rattle.std.specs.Prelude.{◌≡◌, ◌+◌, ◌*◌, ◌<◌, ◌≤◌, ◌^◌, ◌↔◌, ◌∷◌, [], map, length, nat_lt, Some, IsTrue, IsOk, IfOk, IfErr, IfNone};
+ghost use Rattle.std.specs.Prelude.{◌≡◌, ◌+◌, ◌*◌, ◌<◌, ◌≤◌, ◌↔◌, ◌∷◌, [], map, length, nat_lt, Some, IsTrue, IsOk, IfOk, IfErr, IfNone};
 ghost use Rattle.mtp_codes.specs.Names.{is_among};
 ghost use Rattle.mtp_codes.specs.Faults.{first_of, when};
 ghost use Rattle.chart_core.specs.Formulas.{plain_condition, formulas};
@@ -121,7 +121,6 @@ fn finish_reads_too_much(finish: &Option<Condition>) -> bool
 }
 
 fn step_fault(step: &Step, depth: u32, here: Reached, chart: &Chart) -> Option<ChartFault>
-    requires { here.number + 1 < 2 ^ 32 }
     ensures fault { result ≡ node_fault (plain_chart chart.now)
         (visit (leaf (plain_step step.now)) here.number depth here.steps) }
     ensures shallow { IfNone result (depth ≤ DEEPEST_NODE) }

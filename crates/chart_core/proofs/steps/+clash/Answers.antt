@@ -1,47 +1,26 @@
-use Rattle.std.proofs.Common.{arith, ◌∙◌, sym, refl}
-use Rattle.chart_core.specs.Trees.{plain_node, size}
-use Rattle.chart_core.proofs.Counts.{still_left, not_below}
-use Rattle.chart_core.proofs.Items.{one_more, arms_cut}
+use Rattle.std.proofs.Common.{◌+◌, ◌||◌, drop, take, ap, sym, ◌∙◌}
+use Rattle.chart_core.specs.Seeking.{sought}
+use Rattle.chart_core.specs.Trees.{plain_node, trees, sizes}
+use Rattle.chart_core.specs.Valid.{some_uses, clashes_at_once}
+use Rattle.chart_core.proofs.Items.{trees_cut}
+use Rattle.chart_core.proofs.Seeking.{sought_first, past_branch, used_so_far}
 use Rattle.chart_core.proofs.steps.+clash.Goals as goal
 
-pub has_clash_in_turn-loop-kid-preserved : goal.has_clash_in_turn-loop-kid-preserved
-has_clash_in_turn-loop-kid-preserved t c =
-    let kid = c.kid-item.result in
-    let cut = one_more c.args.kids.now c.loop-kid.kid-index kid c.loop-kid-test.true c.kid-item.is in
-    let behind = c.left_behind-beyond.ensures in
-    let no = not_below c.loop-kid.left (size (plain_node kid)) (rw behind at c.if-beyond-eq0.false) in
-    record {
-      room = omega (arith, behind);
-      rest = rw (behind, still_left c.loop-kid.left (size (plain_node kid)), ← c.loop-kid.invariant.rest, cut, no) refl;
-    }
+pub seek_clash-returns-then-place-eq0 : goal.seek_clash-returns-then-place-eq0
+seek_clash-returns-then-place-eq0 t c =
+    rw c.if-place-eq0.true (sym (sought_first (plain_node c.args.node.now) c.args.role c.args.service))
 
-pub has_clash_at_once-loop-kid-preserved : goal.has_clash_at_once-loop-kid-preserved
-has_clash_at_once-loop-kid-preserved t c =
-    let kid = c.kid-item.result in
-    let cut = one_more c.args.kids.now c.loop-kid.kid-index kid c.loop-kid-test.true c.kid-item.is in
-    let behind = c.left_behind-beyond.ensures in
-    let no = not_below c.loop-kid.left (size (plain_node kid)) (rw behind at c.if-beyond-eq0.false) in
-    let unused = sym c.is_used.ensures ∙ c.if-is_used.false in
-    record {
-      room = omega (arith, behind);
-      rest = rw (
-        behind,
-        still_left c.loop-kid.left (size (plain_node kid)),
-        ← c.loop-kid.invariant.rest,
-        cut,
-        no,
-        unused,
-      ) refl;
-    }
-
-pub has_clash_in_arms-loop-arm-preserved : goal.has_clash_in_arms-loop-arm-preserved
-has_clash_in_arms-loop-arm-preserved t c =
-    let body = c.arm-item.result.body in
-    let cut = arms_cut c.args.each.now c.loop-arm.arm-index c.arm-item.result c.loop-arm-test.true c.arm-item.is in
-    let behind = c.left_behind-beyond.ensures in
-    let no = not_below c.loop-arm.left (size (plain_node body)) (rw behind at c.if-beyond-eq0.false) in
-    record {
-      room = omega (arith, behind);
-      rest = rw (behind, still_left c.loop-arm.left (size (plain_node body)), ← c.loop-arm.invariant.rest, cut, no)
-          refl;
-    }
+pub seek_clash_at_once-loop-i-preserved : goal.seek_clash_at_once-loop-i-preserved
+seek_clash_at_once-loop-i-preserved t c =
+    let kids = c.args.kids.now in
+    let role = c.args.role in
+    let service = c.args.service in
+    let kid = c.index-kids-i.result in
+    let earlier = some_uses (trees (take c.loop-i.i kids)) role service in
+    let cut = trees_cut kids c.loop-i.i kid c.loop-i-test.true c.index-kids-i.is in
+    rw (used_so_far kids c.loop-i.i kid role service c.loop-i-test.true c.index-kids-i.is)
+    (past_branch (plain_node kid) (trees (drop (c.loop-i.i + 1) kids)) c.loop-i.left c.in-Beyond.behind role service
+    earlier (sym c.seek_clash.ensures ∙ c.in-Beyond.is)
+    ∙ ap (λ rest. sought c.loop-i.left (sizes rest) (earlier || clashes_at_once rest c.loop-i.left role service))
+    (sym cut)
+    ∙ c.loop-i.invariant)
