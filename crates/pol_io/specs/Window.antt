@@ -48,7 +48,7 @@ IsCut window End text rest = (text ≡ []) × (rest ≡ [])
 
 -- a line stands in the buffer and is short enough, and at the end of input this was seen
 abbrev pub CutFits : Window → Cut → Type 0
-CutFits window (Text from to) = (from ≤ to) × (to ≤ LONGEST_LINE + 1) × (to - from ≤ LONGEST_LINE)
+CutFits window (Text from to) = (from ≤ to) × (to ≤ window.buffer.len) × (to - from ≤ LONGEST_LINE)
 CutFits window TooLong = ⊤
 CutFits window End = window.ended ≡ true
 

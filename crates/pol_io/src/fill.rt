@@ -7,19 +7,34 @@ ghost use Rattle.pol_io.specs.Faults.{Stops};
 ghost use Rattle.pol_io.specs.Window.{waiting, ahead, given, Fills, IsEnd};
 ghost use Rattle.pol_io.specs.declared.limits.TheConstants.{LONGEST_INPUT, LONGEST_LINE};
 
-use crate::limits::LONGEST_INPUT;
+use crate::limits::{LONGEST_INPUT, LONGEST_LINE};
 use crate::lines::IoFault;
 use crate::source::{Failed, Source};
 use crate::window::Window;
 
-// Moves what waits to the front of the buffer.
+// Doubles the length of a full buffer, in the memory that it has, or moves what waits to the front where it is longest.
 fn make_room(window: &mut Window)
+    requires full { window.old.end ≡ window.old.buffer.len }
+    requires short { window.old.end ≤ window.old.start + LONGEST_LINE }
     ensures waiting { waiting window.new ≡ waiting window.old }
     ensures taken { window.new.taken ≡ window.old.taken }
     ensures ended { window.new.ended ≡ window.old.ended }
-    ensures room { window.new.end + window.old.start ≡ window.old.end }
+    ensures room { window.new.end < window.new.buffer.len }
     ensures given { given window.new ≡ given window.old }
 {
+    let length = window.buffer.len();
+    if length <= LONGEST_LINE {
+        let twice = 2 * length;
+        let longer = if twice < LONGEST_LINE {
+            twice
+        } else {
+            LONGEST_LINE + 1
+        };
+        if window.buffer.resize(longer, 0).is_err() {
+            unreachable!();
+        }
+        return;
+    }
     window.buffer.copy_within(window.start..window.end, 0);
     window.end -= window.start;
     window.start = 0;
@@ -62,7 +77,7 @@ fn read_at<S: Source>(
 
 // Takes bytes behind those that wait, as many as come and have room. `false` is the end of input.
 fn take_more<S: Source>(window: &mut Window, source: &mut S) -> Result<bool, IoFault>
-    requires room { window.old.end ≤ LONGEST_LINE }
+    requires room { window.old.end < window.old.buffer.len }
     requires limit { window.old.taken < LONGEST_INPUT }
     requires open_end { window.old.ended ≡ false }
     ensures fills { OnOk result (Fills window.old window.new) }

@@ -1,12 +1,16 @@
 //! A window onto the input: the bytes that were taken and not given yet.
-ghost use Rattle.std.specs.Prelude.{◌≡◌, ◌+◌, ◌≤◌, true, false, IfOk};
+ghost use Rattle.std.specs.Prelude.{◌≡◌, ◌+◌, ◌≤◌, ◌<◌, vec_capacity, true, false, IfOk};
 ghost use Rattle.pol_io.specs.declared.limits.TheConstants.{LONGEST_INPUT, LONGEST_LINE};
 
 use crate::limits::LONGEST_LINE;
 use std::alloc::{AllocError, Global};
 
-/// A buffer in which a longest line and its line feed have room. What waits stands from `start` to `end`; `taken`
-/// counts all bytes that came from the source, and `ended` tells that the end of input was seen and all was given.
+// The length that a buffer begins with; `fill` doubles it where the buffer is full.
+const FIRST_LENGTH: usize = 65_536;
+
+/// A buffer with memory for a longest line and its line feed, which takes its length as bytes come: what no byte needed
+/// is never written. What waits stands from `start` to `end`; `taken` counts all bytes that came from the source, and
+/// `ended` tells that the end of input was seen and all was given.
 #[derive(Drop)]
 pub struct Window {
     pub buffer: Vec<u8>,
@@ -14,22 +18,26 @@ pub struct Window {
     pub end: usize,
     pub taken: u64,
     pub ended: bool,
-    ghost room: { buffer.len ≡ LONGEST_LINE + 1 },
+    ghost room: { LONGEST_LINE + 1 ≤ vec_capacity buffer },
+    ghost begun: { 0 < buffer.len },
+    ghost in_room: { buffer.len ≤ LONGEST_LINE + 1 },
     ghost in_order: { start ≤ end },
-    ghost in_range: { end ≤ LONGEST_LINE + 1 },
+    ghost in_range: { end ≤ buffer.len },
     ghost counted: { end ≤ start + taken },
     ghost limited: { taken ≤ LONGEST_INPUT },
     ghost spent: { ended ≡ true → start ≡ end },
 }
 
 impl Window {
-    /// An empty window, with all its room.
+    /// An empty window, with all its memory.
     pub fn new(alloc: Global) -> Result<Window, AllocError>
         ensures { IfOk result (λ window.
             (window.start ≡ 0) × (window.end ≡ 0) × (window.taken ≡ 0) × (window.ended ≡ false)) }
     {
+        let mut buffer = Vec::with_capacity(alloc, LONGEST_LINE + 1)?;
+        buffer.resize(FIRST_LENGTH, 0)?;
         Ok(Window {
-            buffer: vec![in alloc; 0; LONGEST_LINE + 1]?,
+            buffer,
             start: 0,
             end: 0,
             taken: 0,
