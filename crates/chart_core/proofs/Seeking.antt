@@ -110,7 +110,7 @@ used_so_far kids place kid role service inside same =
     ∙ ap (λ last. take place kids ++ last ∷ []) (sym same))
     ∙ last_used (take place kids) kid role service
 
--- A place behind trees in turn or behind arms does not clash; behind trees at once it does where one of them uses that.
+-- a place behind trees in turn does not clash
 pub behind_in_turn : (each : Trees) (place : ℕ) (role service : List ℕ) → sizes each ≤ place
     → clashes_in_turn each place role service ≡ false
 behind_in_turn no_trees place role service behind = refl
@@ -118,6 +118,7 @@ behind_in_turn (more_trees each others) place role service behind =
     rw (not_within place (size each) (omega (arith, behind)))
     (behind_in_turn others (place - size each) role service (omega (arith, behind)))
 
+-- behind trees at once it does where one of them has a step of the role and service
 pub behind_at_once : (each : Trees) (place : ℕ) (role service : List ℕ) → sizes each ≤ place
     → clashes_at_once each place role service ≡ some_uses each role service
 behind_at_once no_trees place role service behind = refl
@@ -126,6 +127,7 @@ behind_at_once (more_trees each others) place role service behind =
     (ap (λ used. uses each role service || used)
     (behind_at_once others (place - size each) role service (omega (arith, behind))))
 
+-- behind arms it does not
 pub behind_in_arms : (each : Arms) (place : ℕ) (role service : List ℕ) → arm_sizes each ≤ place
     → clashes_in_arms each place role service ≡ false
 behind_in_arms no_arms place role service behind = refl

@@ -242,6 +242,7 @@ stop_holds step at (sight.Is view) name tag service is = go (is_none (forbidden_
     go true is = cc
     go false is = cc
 
+-- no step of several that stop does
 stops_hold : (seen : Sights) (broken : Bool) (steps : List PlainStep) (name tag service : List ℕ)
     → stop_next seen broken steps ≡ next.Did (Hold name tag service) → ⊥
 stops_hold seen true [] name tag service is = cc
@@ -260,6 +261,7 @@ run_holds chart log seen (Entry entry) name tag service at is =
     let off = ap (λ each. is_some (chart_entry each)) same in
     cc
 
+-- the first Unhold that is owed isn't a Hold either
 unhold_holds : (chart : PlainChart) (log : List LogEntry) (seen : Sights) (owes : List PlainStep) (found : CursorNext)
     (name tag service : List ℕ) → first_unhold seen owes ≡ found
     → run_next (unless_whole found (next_after chart log seen)) ≡ next.Did (Hold name tag service) → ⊥
