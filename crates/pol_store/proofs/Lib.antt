@@ -6,3 +6,4 @@ pub mod Tokens
 mod Kept
 mod Applied
 pub mod Opened
+pub mod Firsts

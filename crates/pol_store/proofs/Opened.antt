@@ -43,6 +43,12 @@ opened_long all seen images end events synced replayed = record {
   };
 }
 
+-- an image that was replayed stands for its events
+pub replayed_stands : (image : List ℕ) (end : ℕ) (events : List PlainEvent) → IsReplayed image end events →
+    StandsFor events image
+replayed_stands image end events replayed =
+    record { texts = replayed.texts; are = replayed.are; stands = inr replayed.begins }
+
 -- bytes that were told twice are the same
 pub same_told : (seen : Option (List ℕ)) (all now : List ℕ) → seen ≡ Some all → seen ≡ Some now → now ≡ all
 same_told seen all now told again = ap (λ (o : Option (List ℕ)). unwrap_or o []) (sym again ∙ told)

@@ -24,6 +24,11 @@ pub record StandsFor (events : List PlainEvent) (image : List ℕ) : Type 0 wher
   pub are : AreTextsOf events texts
   pub stands : Stands image texts
 
+-- the text is that of the first of these events, and what stands behind it stands for the others
+abbrev pub HasFirst : List ℕ → List ℕ → List PlainEvent → Type 0
+HasFirst text behind [] = ⊥
+HasFirst text behind (event ∷ events) = (text ≡ event_text event) × StandsFor events behind
+
 -- the image stands for the events, with all of a group behind them or with none of it
 abbrev pub StandsWithAllOrNone : List PlainEvent → List PlainEvent → List ℕ → Type 0
 StandsWithAllOrNone events group image = StandsFor events image ⊎ StandsFor (events ++ group) image

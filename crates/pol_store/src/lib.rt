@@ -3,12 +3,14 @@
 //! Its main contracts are those of `Store::open`, which finds again what the disk keeps, of `Store::admit`, which
 //! answers as the plant does, and of `Store::commit`, which keeps all that were admitted, by two syncs; `Store::apply`
 //! is both for one event (`specs/Keeping.antt`). `specs/Stands.antt` says which events an image of the disk stands
-//! for. A record is a text of `pol_texts`: the compact JSON of an event, as a journal's line has it. This crate knows
-//! nothing of files, of lines of input, or of where answers go.
+//! for, and `first_text` cuts their texts from it, one after another. A record is a text of `pol_texts`: the compact
+//! JSON of an event, as a journal's line has it. This crate knows nothing of files, of lines of input, or of where
+//! answers go.
 //!
 //! Tried in `pol_examples`.
 #![tactic(auto)]
 
+mod cutting;
 mod laws;
 mod opening;
 mod records;
@@ -16,7 +18,7 @@ mod replaying;
 mod store;
 mod writing;
 
+pub use cutting::first_text;
 pub use laws::{histories_are_runs, images_stand_for_one_list};
 pub use opening::OpenFault;
 pub use store::{CommitFault, Store, StoreRefusal};
-pub use writing::put_event_text;

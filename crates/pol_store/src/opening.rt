@@ -5,6 +5,7 @@ ghost use Rattle.pol_disk.specs.Disks.{LeavesOnly, StillTells, ToldOn, Keeps as 
 ghost use Rattle.pol_core.specs.Plants.{plant_history};
 ghost use Rattle.pol_history.specs.Runs.{IsLegal, IsOrderly, events_of};
 ghost use Rattle.pol_store.specs.Opens.{Breaks, IsLeftOf, IsOpened, Tells};
+ghost use Rattle.pol_store.specs.Stands.{StandsFor};
 
 use crate::replaying::replay;
 use pol_core::Plant;
@@ -71,15 +72,16 @@ fn load_all<D: Disk>(alloc: Global, disk: &mut D, size: u64) -> Result<Vec<u8>, 
     }
 }
 
-/// Opens a disk: the plant whose events it keeps, and the place of the closed gate behind their records. What is said
-/// of the bytes that the disk told before holds where it tells its bytes behind the call too: so each answer was
-/// right.
-pub fn open_on<D: Disk>(alloc: Global, disk: &mut D) -> Result<(Plant, u64), OpenFault>
+/// Opens a disk: the plant whose events it keeps, the place of the closed gate behind their records, and the image that
+/// was read, which stands for these events; an empty one, where the disk has at most one byte. What is said of the
+/// bytes that the disk told before holds where it tells its bytes behind the call too: so each answer was right.
+pub fn open_on<D: Disk>(alloc: Global, disk: &mut D) -> Result<(Plant, u64, Vec<u8>), OpenFault>
     ensures left { (all now : List ℕ) → D.bytes disk.old ≡ Some all → D.bytes disk.new ≡ Some now
         → LeavesOnly D.moment D.left_since disk.old disk.new (IsLeftOf all (D.images disk.old)) }
     ensures opened { IfOk result (λ done. (all now : List ℕ) → D.bytes disk.old ≡ Some all
         → D.bytes disk.new ≡ Some now
         → IsOpened all (D.bytes disk.new) (D.images disk.new) done.1 (events_of (plant_history done.0))) }
+    ensures image_read { IfOk result (λ done. StandsFor (events_of (plant_history done.0)) done.2.items) }
     ensures legal { IfOk result (λ done. IsLegal (plant_history done.0)) }
     ensures orderly { IfOk result (λ done. IsOrderly (plant_history done.0)) }
     ensures image { OnOk result ((all : List ℕ) → D.bytes disk.old ≡ Some all → D.images disk.old all) }
@@ -91,9 +93,9 @@ pub fn open_on<D: Disk>(alloc: Global, disk: &mut D) -> Result<(Plant, u64), Ope
     let size = settle(disk)?;
     if size <= 1 {
         begin(disk)?;
-        return Ok((Plant::new(alloc), 0));
+        return Ok((Plant::new(alloc), 0, Vec::new(alloc)));
     }
     let bytes = load_all(alloc, disk, size)?;
     let (plant, end) = replay(alloc, &bytes)?;
-    Ok((plant, end as u64))
+    Ok((plant, end as u64, bytes))
 }

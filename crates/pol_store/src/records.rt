@@ -26,8 +26,8 @@ pub enum Next {
     Broken,
 }
 
-// How many bytes stand before the text of a record.
-const GATE_AND_LENGTH: usize = 9;
+/// How many bytes stand before the text of a record.
+pub const GATE_AND_LENGTH: usize = 9;
 
 /// What is written behind the closed gate: the length of the event's text, the text and the next closed gate.
 pub fn behind_gate(alloc: Global, event: &Event) -> Result<Vec<u8>, AllocError>

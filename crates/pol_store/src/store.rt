@@ -104,39 +104,46 @@ impl<D: Disk> Store<D> {
     /// Opens a disk, whatever a crash, a kill or a failed run left on it. At Ok each crash from now on leaves the
     /// events that the disk reads as. A disk of at most one byte becomes a store without events. What is said of the
     /// bytes that the disk told before holds where it tells its bytes still: so no answer was other than these.
-    pub fn open(alloc: Global, disk: D) -> Result<Store<D>, (D, OpenFault)>
-        ensures opened { IfOk result (λ store. (store.closed ≡ false) × (store.waiting ≡ 0)) }
-        ensures left { (all now : List ℕ) → D.bytes disk ≡ Some all → IfOk result (λ store.
-            D.bytes store.disk ≡ Some now
-            → LeavesOnly D.moment D.left_since disk store.disk (IsLeftOf all (D.images disk))) }
+    ///
+    /// Beside the store comes the image that was read, which stands for its events; an empty one, where there was no
+    /// event to read.
+    pub fn open(alloc: Global, disk: D) -> Result<(Store<D>, Vec<u8>), (D, OpenFault)>
+        ensures opened { IfOk result (λ made. (made.0.closed ≡ false) × (made.0.waiting ≡ 0)) }
+        ensures left { (all now : List ℕ) → D.bytes disk ≡ Some all → IfOk result (λ made.
+            D.bytes made.0.disk ≡ Some now
+            → LeavesOnly D.moment D.left_since disk made.0.disk (IsLeftOf all (D.images disk))) }
         ensures left_err { (all now : List ℕ) → D.bytes disk ≡ Some all → IfErr result (λ back.
             D.bytes back.0 ≡ Some now
             → LeavesOnly D.moment D.left_since disk back.0 (IsLeftOf all (D.images disk))) }
-        ensures stand { IfOk result (λ store. (now : List ℕ) → D.bytes store.disk ≡ Some now → (image : List ℕ)
-            → D.images store.disk image → StandsFor (events_of (plant_history store.plant)) image) }
-        ensures stood { IfOk result (λ store. (all now : List ℕ) → D.bytes disk ≡ Some all
-            → D.bytes store.disk ≡ Some now → StandsFor (events_of (plant_history store.plant)) all) }
-        ensures legal { IfOk result (λ store. IsLegal (plant_history store.plant)) }
-        ensures orderly { IfOk result (λ store. IsOrderly (plant_history store.plant)) }
+        ensures stand { IfOk result (λ made. (now : List ℕ) → D.bytes made.0.disk ≡ Some now → (image : List ℕ)
+            → D.images made.0.disk image → StandsFor (events_of (plant_history made.0.plant)) image) }
+        ensures stood { IfOk result (λ made. (all now : List ℕ) → D.bytes disk ≡ Some all
+            → D.bytes made.0.disk ≡ Some now → StandsFor (events_of (plant_history made.0.plant)) all) }
+        ensures image_read { IfOk result (λ made. StandsFor (events_of (plant_history made.0.plant)) made.1.items) }
+        ensures legal { IfOk result (λ made. IsLegal (plant_history made.0.plant)) }
+        ensures orderly { IfOk result (λ made. IsOrderly (plant_history made.0.plant)) }
         ensures image { OnOk result ((all : List ℕ) → D.bytes disk ≡ Some all → D.images disk all) }
-        ensures on { IfOk result (λ store. ToldOn (D.bytes disk) (D.bytes store.disk)) }
+        ensures on { IfOk result (λ made. ToldOn (D.bytes disk) (D.bytes made.0.disk)) }
         ensures on_err { IfErr result (λ back. ToldOn (D.bytes disk) (D.bytes back.0)) }
-        ensures quiet { IfOk result (λ store. D.faults store.disk ≡ D.faults disk) }
+        ensures quiet { IfOk result (λ made. D.faults made.0.disk ≡ D.faults disk) }
         ensures tells { IfErr result (λ back. Tells back.1
             (D.bytes disk) (D.bytes back.0) (D.faults disk) (D.faults back.0)) }
         ensures disk_cause { IfErr result (λ back. back.1 ≡ OpenFault.Disk → Rose (D.faults disk) (D.faults back.0)) }
     {
         let mut disk = disk;
         match open_on(alloc, &mut disk) {
-            Ok((plant, end)) => Ok(Store {
-                alloc,
-                plant,
-                disk,
-                end,
-                group: Vec::new(alloc),
-                waiting: 0,
-                closed: false,
-            }),
+            Ok((plant, end, image)) => {
+                let store = Store {
+                    alloc,
+                    plant,
+                    disk,
+                    end,
+                    group: Vec::new(alloc),
+                    waiting: 0,
+                    closed: false,
+                };
+                Ok((store, image))
+            }
             Err(fault) => Err((disk, fault)),
         }
     }

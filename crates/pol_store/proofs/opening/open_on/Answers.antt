@@ -6,7 +6,7 @@ use Rattle.pol_events.specs.Events.{PlainEvent}
 use Rattle.pol_core.specs.Plants.{plant_history}
 use Rattle.pol_store.specs.Opens.{Breaks, IsOpened, IsReplayed}
 use Rattle.pol_history.specs.Runs.{events_of}
-use Rattle.pol_store.proofs.Opened.{breaks_told, bytes_told, fault_tells, left_begun, left_read, number_told, opened_long, opened_short, same_told}
+use Rattle.pol_store.proofs.Opened.{breaks_told, bytes_told, fault_tells, left_begun, left_read, number_told, opened_long, opened_short, replayed_stands, same_told}
 use Rattle.pol_store.proofs.opening.open_on.Goals as goal
 
 pub returns-in_err-bytes-clause-tells : goal.returns-in_err-bytes-clause-tells
@@ -113,3 +113,9 @@ returns-clause-left g c = λ all now told later.
     let d = g.D.Disk in
     left_read d.images d.moment d.left_since c.args.disk.now c.settle.new.disk all
     c.in_ok-size.ensures.moments c.load_all.new.disk c.in_ok-size.ensures.images c.load_all.ensures.moments
+
+pub returns-clause-image_read : goal.returns-clause-image_read
+returns-clause-image_read g c =
+    let events : List PlainEvent = events_of (plant_history c.in_ok-plant.plant) in
+    replayed_stands c.in_ok-bytes.bytes.items c.in_ok-plant.end events
+    (subst (λ (l : List ℕ). IsReplayed l c.in_ok-plant.end events) c.deref.ensures.value c.in_ok-plant.ensures.replayed)

@@ -8,8 +8,8 @@ use Rattle.pol_store.proofs.Kept.{if_now, none_waits}
 use Rattle.pol_store.proofs.Texts.{kept_stands}
 use Rattle.pol_store.proofs.store.Store.open.Goals as goal
 
-pub invariant_of-result : goal.invariant_of-result
-invariant_of-result g c =
+pub invariant_of-store : goal.invariant_of-store
+invariant_of-store g c =
     let d = g.D.Disk in
     let seen : Option (List ℕ) = d.bytes c.open_on.new.disk in
     let events : List PlainEvent = events_of (plant_history c.in-Ok.plant) in
