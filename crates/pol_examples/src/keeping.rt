@@ -66,7 +66,7 @@ fn keep_on<R: Threads + Wait + Sync>(
 // How many entries the history has that a disk keeps.
 fn entries(alloc: Global, disk: MemoryDisk) -> Result<usize, Fail> {
     match Store::open(alloc, disk) {
-        Ok(store) => {
+        Ok((store, _image)) => {
             let count = store.plant().history().len();
             let (_plant, _disk) = store.into_parts();
             Ok(count)
@@ -400,7 +400,7 @@ fn keeps_all_or_none<R: Abort>(
     fill: u8,
 ) -> Result<bool, Fail> {
     let disk = MemoryDisk::new(alloc, &[0], u32::MAX, stop)?;
-    let Ok(mut store) = Store::open(alloc, disk) else {
+    let Ok((mut store, _image)) = Store::open(alloc, disk) else {
         return Ok(false);
     };
     let done = keeps_group(&mut store, events);
@@ -442,7 +442,7 @@ fn one_event_is_applied_and_kept(rt: HostRuntime) -> Result<(), Fail> {
     let Some(tag) = Name::of_bytes(b"M1") else {
         return Err(Fail::from("it isn't a name"));
     };
-    let Ok(mut store) = Store::open(alloc, empty_disk(alloc)?) else {
+    let Ok((mut store, _image)) = Store::open(alloc, empty_disk(alloc)?) else {
         return Err(Fail::from("it doesn't open"));
     };
     let applied = store.apply(Event::Unplug { at: 1, tag }).is_ok();

@@ -46,8 +46,9 @@ did_either work start Did held held' input (Ok done) all some = all_some work st
 did_either work start Did held held' input (Err fault) all some = some
 
 -- a job that is done is done over its lines too
-pub when_done : (P : Type 0) (result : Result (Unit {0}) KeepFault) (done : Result (Unit {0}) (JobFault Infallible DiskFailed)) →
-    job_result result ≡ done → OnOk done P → OnOk result P
+pub when_done : (P : Type 0) (result : Result (Unit {0}) KeepFault)
+    (done : Result (Unit {0}) (JobFault Infallible DiskFailed)) → job_result result ≡ done → OnOk done P →
+    OnOk result P
 when_done P (Ok all) done is known = subst (λ done. OnOk done P) (sym is) known
 when_done P (Err fault) done is known = tt
 
@@ -71,8 +72,8 @@ on_ok_holds (Err fault) holds = tt
 
 -- the disk stood for the events of a legal history, and the job ended so
 pub keeps : (output : List PlainEvent → Output Infallible) (seen : Option (List ℕ)) (source source' sink sink' : Edge)
-    (result : Result (Unit {0}) (JobFault Infallible DiskFailed)) (history : History) → IsLegal history → IsOrderly history →
-    IfSome seen (StandsFor (events_of history)) →
+    (result : Result (Unit {0}) (JobFault Infallible DiskFailed)) (history : History) → IsLegal history →
+    IsOrderly history → IfSome seen (StandsFor (events_of history)) →
     Ends (output (events_of history)) source source' sink sink' result →
     Keeps output seen source source' sink sink' result
 keeps output seen source source' sink sink' result history legal orderly stood ends = record {

@@ -1,12 +1,9 @@
 -- The journal of a kept plant, line by line, and how the job ends that writes it.
-use Rattle.std.proofs.Common.{ℕ, ◌≡◌, ◌<◌, List, [], ◌∷◌, ◌++◌, length, map, Option, refl, sym, ap, subst, ◌∙◌, arith}
+use Rattle.std.proofs.Common.{ℕ, ◌≡◌, ◌<◌, List, [], ◌∷◌, ◌++◌, length, Option, refl, sym, ap, subst, ◌∙◌, arith}
 use Rattle.std.proofs.Common.{append_assoc, append-nil, length-append}
-use Rattle.std.proofs.lemmas.List.{map-append, reverse-append, reverse-reverse}
-use Rattle.std.proofs.lemmas.List.Folds.{flat_map-map}
-use Rattle.std.specs.Prelude.{IfErr, OnErr, OnOk, Result, Ok, Err, reverse, ◌≢◌}
+use Rattle.std.specs.Prelude.{IfErr, OnErr, OnOk, Result, Ok, Err, ◌≢◌}
 use Rattle.std.specs.Io.KnownBytes.{Appends}
-use Rattle.pol_events.specs.Events.{PlainEvent, PlainEntry, plain_entry, plain_history}
-use Rattle.pol_events.specs.declared.event.Entry.{Entry}
+use Rattle.pol_events.specs.Events.{PlainEvent}
 use Rattle.pol_io.specs.Causes.{HasCauseOf}
 use Rattle.pol_io.specs.Edge.{Edge}
 use Rattle.pol_io.proofs.Known.{Appends_none, Appends_trans, Keeps_refl}
@@ -17,35 +14,10 @@ use Rattle.pol_jobs.specs.declared.output.PutFault.TheVariants as put_fault
 use Rattle.pol_replay.specs.BatchLines.{WritesUpTo}
 use Rattle.pol_replay.proofs.BatchLines.{up_to_end, up_to_next}
 use Rattle.pol_record.specs.Texts.{event_text}
-use Rattle.pol_history.specs.Runs.{events_of}
-use Rattle.pol_keep.specs.Exported.{HandsOn, entry_lines, event_line, exported_output, journal_text, no_input}
-use Rattle.pol_keep.specs.Exported.{put_result}
+use Rattle.pol_store.specs.Stands.{HasFirst, StandsFor}
+use Rattle.pol_keep.specs.Exported.{HandsOn, event_line, exported_output, journal_text, no_input, put_result}
 use Rattle.pol_keep.specs.Kept.{job_result}
 use Rattle.pol_keep.specs.declared.fault.KeepFault.TheVariants.{Disk, NotAStore}
-
--- ---- the entries' lines are their events' journal
-
--- what is made of each in one order is made of each in the other
-turned : {A B : Type 0} (made : A → B) (items : List A) → map made (reverse items) ≡ reverse (map made items)
-turned made [] = refl
-turned made (item ∷ items) =
-    ap (map made) (reverse-append (item ∷ []) items) ∙ map-append made (reverse items) (item ∷ [])
-    ∙ ap (λ all. all ++ made item ∷ []) (turned made items) ∙ sym (reverse-append (made item ∷ []) (map made items))
-
--- the event of an entry
-abbrev event_in : PlainEntry → PlainEvent
-event_in entry = entry.event
-
--- the events of the entries, the oldest first
-events_in_order : (entries : List Entry) → events_of (plain_history entries) ≡ map event_in (map plain_entry entries)
-events_in_order entries =
-    ap reverse (turned event_in (map plain_entry entries)) ∙ reverse-reverse (map event_in (map plain_entry entries))
-
--- so their lines are the journal
-pub lines_journal : (entries : List Entry) → entry_lines entries ≡ journal_text (events_of (plain_history entries))
-lines_journal entries =
-    sym (ap journal_text (events_in_order entries) ∙ flat_map-map event_line event_in (map plain_entry entries)
-    ∙ flat_map-map (λ entry. event_line (event_in entry)) plain_entry entries)
 
 -- ---- some of the lines were written
 
@@ -116,6 +88,90 @@ pub last_handed : (held between held' : Option (List ℕ)) (waiting rest all : L
 last_handed held between held' waiting rest all none so_far appended =
     up_to_end held held' all (up_to_next held between held' waiting [] all
     (subst (λ rest. WritesUpTo held between (waiting ++ rest) all) none so_far) appended)
+
+-- ---- line after line
+
+-- The journal of these events was written, but for what waits and for the lines of later events. The rest of an image
+-- stands for those.
+pub record IsExported (held held' : Option (List ℕ)) (waiting rest : List ℕ) (events : List PlainEvent) : Type 0 where
+  pub later : List PlainEvent
+  pub stands : StandsFor later rest
+  pub so_far : WritesUpTo held held' (waiting ++ journal_text later) (journal_text events)
+
+-- at first nothing was
+pub exports_none : (held : Option (List ℕ)) (waiting image : List ℕ) (events : List PlainEvent) → waiting ≡ [] →
+    StandsFor events image → IsExported held held waiting image events
+exports_none held waiting image events none stands = rw none (record {
+  later = events;
+  stands = stands;
+  so_far = record { written = []; appended = Appends_none held held (Keeps_refl held); up_to = refl };
+})
+
+module _ (held between : Option (List ℕ)) (waiting rest text behind : List ℕ) (events : List PlainEvent)
+    (first : (events : List PlainEvent) → StandsFor events rest → HasFirst text behind events) where
+  -- one line more was put behind those that wait
+  exports_more : (now : List ℕ) → now ≡ waiting ++ (text ++ 10 ∷ []) →
+      IsExported held between waiting rest events → IsExported held between now behind events
+  exports_more now now_is exported =
+      go exported.later (first exported.later exported.stands) exported.so_far
+    where
+      go : (later : List PlainEvent) → HasFirst text behind later →
+          WritesUpTo held between (waiting ++ journal_text later) (journal_text events) →
+          IsExported held between now behind events
+      go [] has so_far = absurd has
+      go (event ∷ later) has so_far = rw now_is (rw has.0 (record {
+        later = later;
+        stands = has.1;
+        so_far = waits_longer held between waiting (event_line event) (journal_text later) (journal_text events) so_far;
+      }))
+
+  -- and what waited was handed on, where it was enough
+  pub exports_on : (held' : Option (List ℕ)) (put now : List ℕ) → put ≡ waiting ++ (text ++ 10 ∷ []) →
+      IsExported held between waiting rest events → HandsOn between held' put now →
+      IsExported held held' now behind events
+  unfolding exports_more
+  exports_on held' put now put_is exported hands =
+      let more = exports_more put put_is exported in
+      record {
+        later = more.later;
+        stands = more.stands;
+        so_far = handed_on held between held' put now (journal_text more.later) (journal_text events) more.so_far hands;
+      }
+
+  -- or not all of it
+  pub exports_part : (held' : Option (List ℕ)) (put : List ℕ) → put ≡ waiting ++ (text ++ 10 ∷ []) →
+      IsExported held between waiting rest events → WritesPart between held' put →
+      WritesPart held held' (journal_text events)
+  exports_part held' put put_is exported part =
+      let more = exports_more put put_is exported in
+      cut_next held between held' put (journal_text more.later) (journal_text events) more.so_far part
+
+  -- or there was no memory to put it there
+  pub exports_unput : IsExported held between waiting rest events → WritesPart held between (journal_text events)
+  exports_unput exported = go exported.later (first exported.later exported.stands) exported.so_far
+    where
+      go : (later : List PlainEvent) → HasFirst text behind later →
+          WritesUpTo held between (waiting ++ journal_text later) (journal_text events) →
+          WritesPart held between (journal_text events)
+      go [] has so_far = absurd has
+      go (event ∷ later) has so_far =
+          cut_waiting held between (waiting ++ (event_line event ++ journal_text later)) (journal_text events)
+          (some_behind_waiting waiting event (journal_text later)) so_far
+
+module _ (held between held' : Option (List ℕ)) (waiting rest : List ℕ) (events : List PlainEvent)
+    (none : (events : List PlainEvent) → StandsFor events rest → events ≡ []) where
+  -- the last that waited was written
+  pub exports_all : IsExported held between waiting rest events → Appends between held' waiting →
+      Appends held held' (journal_text events)
+  exports_all exported appended =
+      last_handed held between held' waiting (journal_text exported.later) (journal_text events)
+      (ap journal_text (none exported.later exported.stands)) exported.so_far appended
+
+  -- or a proper part of it
+  pub exports_last : IsExported held between waiting rest events → WritesPart between held' waiting →
+      WritesPart held held' (journal_text events)
+  exports_last exported part =
+      cut_next held between held' waiting (journal_text exported.later) (journal_text events) exported.so_far part
 
 -- ---- how it ends
 

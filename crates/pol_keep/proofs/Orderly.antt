@@ -1,14 +1,13 @@
--- The entries of an orderly history, one by one, and the run of its events and of those of more lines.
-use Rattle.std.proofs.Common.{ℕ, zero, suc, ◌≡◌, ◌<◌, List, [], ◌∷◌, ◌++◌, length, Bool, true, false, cond, Result, Ok}
-use Rattle.std.proofs.Common.{Err, arith, get_or, refl, sym, ◌∙◌, ap, subst, map}
+-- The run of the events of an orderly history and of those of more lines.
+use Rattle.std.proofs.Common.{ℕ, ◌≡◌, List, [], ◌∷◌, ◌++◌, length, Bool, true, false, cond, Result, Ok}
+use Rattle.std.proofs.Common.{Err, refl, sym, ◌∙◌, ap, subst, map}
 use Rattle.std.proofs.lemmas.List.{reverse-append}
 use Rattle.std.specs.Prelude.{reverse, nat_lt}
 use Rattle.std.specs.List.{AllByRecursion, list_all}
 use Rattle.pol_io.specs.Pieces.{line_of}
 use Rattle.pol_io.specs.declared.limits.TheConstants.{LONGEST_LINE}
-use Rattle.pol_events.specs.Events.{PlainEvent, plain_entry, plain_history}
+use Rattle.pol_events.specs.Events.{PlainEvent}
 use Rattle.pol_events.specs.Orderly.{is_orderly}
-use Rattle.pol_events.specs.declared.event.Entry.{Entry}
 use Rattle.event_json.specs.Lines.{event_of, is_blank_byte}
 use Rattle.event_json.specs.declared.fault.LineFault.{LineFault}
 use Rattle.event_json.specs.declared.fault.LineFault.TheVariants.{TooLong}
@@ -34,26 +33,6 @@ all_reverse P [] all = tt
 all_reverse P (x ∷ xs) all =
     let parts = all_parts P (reverse xs) (x ∷ []) (subst (AllByRecursion P) (reverse-append (x ∷ []) xs) all) in
     (parts.1.0, all_reverse P xs parts.0)
-
--- each entry of an orderly history is orderly
-each_orderly : (entries : List Entry) (i : ℕ) (default : Entry) → IsOrderly (map plain_entry entries) →
-    i < length entries →
-    is_orderly (plain_entry (get_or entries i default)).event ≡ true
-each_orderly [] i default orderly inside = absurd (omega arith)
-each_orderly (entry ∷ entries) zero default orderly inside = orderly.0
-each_orderly (entry ∷ entries) (suc i) default orderly inside =
-    each_orderly entries i default orderly.1 (omega arith)
-
--- so is the entry at a place, where the history of the entries is orderly
-pub entry_orderly : (entries : List Entry) (i : ℕ) (entry : Entry) → IsOrderly (plain_history entries) →
-    i < length entries →
-    entry ≡ get_or entries i entry → is_orderly (plain_entry entry).event ≡ true
-entry_orderly entries i entry orderly inside same =
-    subst (λ each. is_orderly (plain_entry each).event ≡ true) (sym same)
-    (each_orderly entries i entry
-    (all_reverse (λ each. is_orderly each.event ≡ true) (map plain_entry entries) orderly) inside)
-
--- ---- more lines
 
 -- an event that a line says is in order
 said_orderly : (line : List ℕ) (event : PlainEvent) → meaning_of line ≡ an_event event → is_orderly event ≡ true

@@ -4,8 +4,7 @@ use Rattle.std.specs.List.{AllByRecursion, flat_map}
 use Rattle.std.specs.Io.KnownBytes.{Appends}
 use Rattle.std.specs.declared.convert.Infallible.{Infallible}
 use Rattle.mtp_codes.specs.declared.limits.TheConstants.{LONGEST_HISTORY}
-use Rattle.pol_events.specs.Events.{PlainEvent, plain_event}
-use Rattle.pol_events.specs.declared.event.Entry.{Entry}
+use Rattle.pol_events.specs.Events.{PlainEvent}
 use Rattle.pol_history.specs.Runs.{history_after, run_of}
 use Rattle.pol_io.specs.Edge.{Edge}
 use Rattle.pol_io.specs.declared.limits.TheConstants.{LONGEST_INPUT, LONGEST_LINE}
@@ -26,10 +25,6 @@ event_line event = event_text event ++ 10 ∷ []
 -- the journal of some events: the line of each, in order
 abbrev pub journal_text : List PlainEvent → List ℕ
 journal_text events = flat_map event_line events
-
--- the lines of the events of these entries
-abbrev pub entry_lines : List Entry → List ℕ
-entry_lines entries = flat_map (λ entry. event_line (plain_event entry.event)) entries
 
 -- the output of the job on a plant where these events happened: nothing for lines, and in all their journal
 abbrev pub exported_output : List PlainEvent → Output Infallible

@@ -1,38 +1,35 @@
 //! The events of a kept plant, written as the lines of a journal.
-ghost use Rattle.std.specs.Prelude.{◌≡◌, ◌≢◌, ◌++◌, ℕ, List, Some, IfErr, IfSome, IsTrue, OnErr, OnOk};
+ghost use Rattle.std.specs.Prelude.{◌≡◌, ◌≢◌, ◌++◌, ◌∷◌, [], ℕ, List, Some, IfErr, IfSome, OnErr, OnOk};
 ghost use Rattle.std.specs.Io.KnownBytes.{Appends};
 ghost use Rattle.pol_core.specs.Plants.{plant_history};
 ghost use Rattle.pol_disk.specs.Disks.{told_through};
-ghost use Rattle.pol_events.specs.Events.{plain_event, plain_history};
-ghost use Rattle.pol_events.specs.Orderly.{is_orderly};
-ghost use Rattle.pol_history.specs.Runs.{IsOrderly, events_of};
+ghost use Rattle.pol_events.specs.Events.{PlainEvent};
+ghost use Rattle.pol_history.specs.Runs.{events_of};
 ghost use Rattle.pol_io.specs.Causes.{HasCauseOf, Rose};
 ghost use Rattle.pol_jobs.specs.Ends.{Ends, edge};
 ghost use Rattle.pol_jobs.specs.Written.{WritesPart};
 ghost use Rattle.pol_store.specs.Opens.{IsNoStore};
-ghost use Rattle.pol_store.specs.Stands.{StandsForNone};
-ghost use Rattle.pol_keep.specs.Exported.{HandsOn, entry_lines, event_line, exported_output, no_input};
+ghost use Rattle.pol_store.specs.Stands.{StandsFor, StandsForNone};
+ghost use Rattle.pol_keep.specs.Exported.{HandsOn, exported_output, journal_text, no_input};
 ghost use Rattle.pol_keep.specs.Keeping.{telling};
 ghost use Rattle.pol_keep.specs.Leaving.{HoldsAll, HoldsOn};
 ghost use Rattle.pol_keep.specs.Kept.{IsUnopened, KeepEnds, job_result};
 
 use crate::fault::{KeepFault, put_ended, unopened};
 use pol_disk::Disk;
-use pol_events::{Entry, Event};
 use pol_io::Sink;
 use pol_jobs::{PutFault, put};
-use pol_store::{Store, put_event_text};
+use pol_store::{Store, first_text};
 use std::alloc::{AllocError, Global};
 
 // From how many bytes on lines are written together, by one call of the sink.
 const WRITTEN_TOGETHER: usize = 65_536;
 
-// Puts the line of an event behind what a buffer holds.
-fn put_event_line(alloc: Global, lines: &mut Vec<u8>, event: &Event) -> Result<(), AllocError>
-    requires { IsTrue (is_orderly (plain_event event.now)) }
-    ensures { OnOk result (lines.new.items ≡ lines.old.items ++ event_line (plain_event event.now)) }
+// Puts a text as a line behind what a buffer holds.
+fn put_line(lines: &mut Vec<u8>, text: &[u8]) -> Result<(), AllocError>
+    ensures { OnOk result (lines.new.items ≡ lines.old.items ++ (text.now ++ 10 ∷ [])) }
 {
-    put_event_text(alloc, lines, event)?;
+    lines.extend_from_slice(text)?;
     lines.push(b'\n')?;
     Ok(())
 }
@@ -52,27 +49,32 @@ fn put_if_enough<K: Sink>(lines: &mut Vec<u8>, sink: &mut K) -> Result<(), PutFa
     Ok(())
 }
 
-// Writes the lines of the events of these entries.
-fn put_lines<K: Sink>(alloc: Global, entries: &[Entry], sink: &mut K) -> Result<(), PutFault>
-    requires { IsOrderly (plain_history entries.now) }
-    ensures text { OnOk result (Appends (K.held sink.old) (K.held sink.new) (entry_lines entries.now)) }
-    ensures part { OnErr result (WritesPart (K.held sink.old) (K.held sink.new) (entry_lines entries.now)) }
+// Writes the text of each event that an image stands for as a line.
+fn put_lines<K: Sink>(alloc: Global, image: &[u8], sink: &mut K) -> Result<(), PutFault>
+    ensures text { (events : List PlainEvent) → StandsFor events image.now
+        → OnOk result (Appends (K.held sink.old) (K.held sink.new) (journal_text events)) }
+    ensures part { (events : List PlainEvent) → StandsFor events image.now
+        → OnErr result (WritesPart (K.held sink.old) (K.held sink.new) (journal_text events)) }
     ensures cause { HasCauseOf PutFault.Write (K.faults sink.old) (K.faults sink.new) result }
 {
     let mut lines = Vec::new(alloc);
-    for entry in entries {
-        put_event_line(alloc, &mut lines, &entry.event)?;
+    let mut rest = image;
+    while let Some((text, behind)) = first_text(rest) {
+        put_line(&mut lines, text)?;
         put_if_enough(&mut lines, sink)?;
+        rest = behind;
     }
     put(sink, &lines)
 }
 
-// Writes the journal of an open store, and hands the disk back.
+// Writes the journal of an open store by the image that was read of it, and hands the disk back.
 fn export_from<K: Sink, D: Disk>(
     alloc: Global,
     store: Store<D>,
+    image: &[u8],
     sink: &mut K,
 ) -> (Result<(), KeepFault>, D)
+    requires { StandsFor (events_of (plant_history store.plant)) image.now }
     ensures ends { Ends (exported_output (events_of (plant_history store.plant))) no_input no_input
         (edge (K.held sink.old) (K.faults sink.old)) (edge (K.held sink.new) (K.faults sink.new))
         (job_result result.0) }
@@ -80,7 +82,7 @@ fn export_from<K: Sink, D: Disk>(
     ensures is_store { IfErr result.0 (λ fault. (place : ℕ) → fault ≢ KeepFault.NotAStore place) }
     ensures disk { result.1 ≡ store.disk }
 {
-    let done = put_lines(alloc, store.plant().history(), sink);
+    let done = put_lines(alloc, image, sink);
     let (_plant, disk) = store.into_parts();
     (put_ended(done), disk)
 }
@@ -108,7 +110,7 @@ pub fn export<K: Sink, D: Disk>(alloc: Global, sink: &mut K, disk: D) -> (Result
         → ¬ Rose (D.faults disk) (D.faults result.1) → IsUnopened result.0 }
 {
     match Store::open(alloc, disk) {
-        Ok(store) => export_from(alloc, store, sink),
+        Ok((store, image)) => export_from(alloc, store, &image, sink),
         Err((disk, fault)) => (Err(unopened(fault)), disk),
     }
 }

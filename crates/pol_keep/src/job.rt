@@ -87,7 +87,10 @@ pub fn keep<S: Source, K: Sink, D: Disk>(
         → ¬ Rose (D.faults disk) (D.faults result.1) → IsUnopened result.0 }
 {
     match Store::open(alloc, disk) {
-        Ok(store) => keep_on(alloc, store, source, sink),
+        Ok((store, image)) => {
+            drop(image);
+            keep_on(alloc, store, source, sink)
+        }
         Err((disk, fault)) => (Err(unopened(fault)), disk),
     }
 }

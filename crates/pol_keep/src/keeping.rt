@@ -12,8 +12,8 @@ use std::alloc::Global;
 use std::convert::Infallible;
 
 /// A replay on a plant that is kept: the event of each line is kept before its answer is handed on, and that before the
-/// next line is met. It closes with the line of each batch and the end line. Where the disk fails it stops, and its store
-/// is closed.
+/// next line is met. It closes with the line of each batch and the end line. Where the disk fails it stops, and its
+/// store is closed.
 pub struct Keeping<D: Disk> {
     /// The memory that it takes.
     pub alloc: Global,

@@ -5,7 +5,7 @@
 //! (`specs/Kept.antt`). A crash at any moment leaves the old events and those of the first lines, and at the end at
 //! least those that were answered (`specs/Leaving.antt`); so over many runs, each ended by a crash, no answered event
 //! is lost (`specs/Life.antt`). The disk is opened before the source is read. The kept events are written out as the
-//! lines of a journal by `export` (`specs/Exported.antt`).
+//! lines of a journal by `export`, each text just as the disk has it (`specs/Exported.antt`).
 //!
 //! Tried in `pol_examples`.
 #![tactic(auto)]

@@ -1,11 +1,15 @@
-use Rattle.std.proofs.Common.{◌≡◌, ◌++◌, drop}
-use Rattle.pol_replay.specs.BatchLines.{WritesUpTo}
-use Rattle.pol_keep.specs.Exported.{entry_lines}
+use Rattle.std.proofs.Common.{◌≡◌, List, length}
+use Rattle.pol_events.specs.Events.{PlainEvent}
+use Rattle.pol_store.specs.Stands.{StandsFor}
+use Rattle.pol_keep.proofs.Exported.{IsExported}
 use Rattle.pol_keep.proofs.exporting.put_lines.Given as goal
 
-abbrev pub invariant-loop-entry : goal.invariant-loop-entry
-invariant-loop-entry g l = record {
-  so_far : WritesUpTo (g.K.Sink.held l.fn.sink) (g.K.Sink.held l.sink)
-      (l.lines.items ++ entry_lines (drop l.entry-index l.entries)) (entry_lines l.entries);
+abbrev pub invariant-loop-text : goal.invariant-loop-text
+invariant-loop-text g l = record {
+  so_far : (events : List PlainEvent) → StandsFor events l.image →
+      IsExported (g.K.Sink.held l.fn.sink) (g.K.Sink.held l.sink) l.lines.items l.rest events;
   sound : g.K.Sink.faults l.sink ≡ g.K.Sink.faults l.fn.sink;
 }
+
+abbrev pub decreases-loop-text : goal.decreases-loop-text
+decreases-loop-text g l = length l.rest

@@ -18,7 +18,9 @@ returns-in-Err-clause-failed g c = λ first settled waiting so_far.
     c.commit.new.self settled waiting so_far did.moments did.on g.met.D.Disk.counts_now _ did.fails
 
 pub returns-in-Err-clause-has_failed : goal.returns-in-Err-clause-has_failed
-returns-in-Err-clause-has_failed g c = fails_closed g.D.Disk.faults c.args.self.now.store c.commit.new.self _ c.in-Err.ensures.fails
+returns-in-Err-clause-has_failed g c =
+    fails_closed g.D.Disk.faults c.args.self.now.store c.commit.new.self _ c.in-Err.ensures.fails
 
 pub returns-in-Err-clause-failed_still : goal.returns-in-Err-clause-failed_still
-returns-in-Err-clause-failed_still g c = λ was. fails_closed g.D.Disk.faults c.args.self.now.store c.commit.new.self _ c.in-Err.ensures.fails
+returns-in-Err-clause-failed_still g c = λ was.
+    fails_closed g.D.Disk.faults c.args.self.now.store c.commit.new.self _ c.in-Err.ensures.fails
