@@ -1,20 +1,24 @@
 -- Which inputs are refused: those whose policy has a fault.
-use Rattle.std.proofs.Common.{◌≡◌, ℕ, List, [], ◌∷◌, ◌++◌, Option, Some, None, Ok, Err, map, cond, refl, ap, ◌∙◌}
-use Rattle.std.proofs.Common.{append-nil}
+use Rattle.std.proofs.Common.{◌≡◌, ◌⊎◌, inl, inr, ℕ, Bool, true, false, List, [], ◌∷◌, ◌++◌, Option, Some, None, Ok, Err}
+use Rattle.std.proofs.Common.{map, cond, refl, sym, ap, ◌∙◌, append-nil, if◌then◌else◌}
 use Rattle.std.specs.Prelude.{IsTrue, filter}
 use Rattle.std.specs.Io.KnownBytes.{Appends, Keeps}
 use Rattle.std.proofs.lemmas.List.{map-append}
 use Rattle.std.proofs.lemmas.List.Elements.{filter-append}
 use Rattle.mtp_json.specs.ReadResult.{ReadResult}
 use Rattle.mtp_json.specs.declared.fault.JsonFault.{JsonFault}
+use Rattle.pol_history.specs.Looking.{History}
 use Rattle.pol_io.specs.Pieces.{pieces}
+use Rattle.pol_jobs.specs.Deeds.{RefusesBehind}
 use Rattle.pol_jobs.specs.Ends.{IsRefused, refused_line, refused_input, RefusesLine}
-use Rattle.pol_jobs.specs.LineWork.{Line, line_met}
+use Rattle.pol_jobs.specs.LineWork.{Line, after_each, line_met, replies_to}
 use Rattle.pol_policy.specs.Policies.{PlainPolicy}
 use Rattle.pol_replay.specs.Meanings.{is_some_line}
 use Rattle.pol_guard.specs.Guarded.{IsNoPolicy, behind_first, guarded, journal_of, policy_among, policy_of, replies_by}
-use Rattle.pol_guard.specs.Guarded.{some_lines}
+use Rattle.pol_guard.specs.Guarded.{policy_said, some_lines}
 use Rattle.pol_guard.specs.Laws.{RefusalsAreFaults}
+use Rattle.pol_guard.specs.Lines.{guarded_line}
+use Rattle.pol_guard.specs.Work.{Known, waiting, begun, after_some, guard_work, history_with, reply_some, said_in}
 
 -- where nothing was appended, all is as it was
 appends_nothing : (held held' : Option (List ℕ)) (text : List ℕ) → text ≡ [] → Appends held held' text →
@@ -77,6 +81,63 @@ refused fault held held' bytes left (refused_input input) = (
       (nothing_replied (policy_of bytes) fault (journal_of bytes) input.refuses) input.written,
 )
 
+-- ---- whatever the source tells
+
+-- a policy that was said stays
+policy_stays : (policy : PlainPolicy) (history : History) (lines : List Line) →
+    said_in (after_each guard_work (begun (Ok policy) history) lines) ≡ Ok policy
+policy_stays policy history [] = refl
+policy_stays policy history (line ∷ lines) =
+    by_line (is_some_line line) (λ later. policy_stays policy later lines)
+  where
+    by_line : (some : Bool) →
+        ((later : History) → said_in (after_each guard_work (begun (Ok policy) later) lines) ≡ Ok policy) →
+        said_in (after_each guard_work
+        (if some then after_some (begun (Ok policy) history) line else begun (Ok policy) history) lines)
+        ≡ Ok policy
+    by_line true rest = rest (history_with history (guarded_line policy line))
+    by_line false rest = rest history
+
+-- where no policy is known behind some lines, nothing was replied to them
+nothing_replied_to : (fault : JsonFault) (known : Known) (lines : List Line) →
+    said_in (after_each guard_work known lines) ≡ Err fault → replies_to guard_work known lines ≡ []
+nothing_replied_to fault known [] none = refl
+nothing_replied_to fault known (line ∷ lines) none =
+    by_line (is_some_line line) known (λ later. nothing_replied_to fault later lines) none
+  where
+    other : (policy : PlainPolicy) → Ok policy ≡ Err fault → ⊥
+    other policy same = cc
+
+    by_line : (some : Bool) (known : Known) → ((later : Known) →
+        said_in (after_each guard_work later lines) ≡ Err fault → replies_to guard_work later lines ≡ []) →
+        said_in (after_each guard_work (if some then after_some known line else known) lines) ≡ Err fault →
+        (if some then reply_some known line else [])
+        ++ replies_to guard_work (if some then after_some known line else known) lines
+        ≡ []
+    by_line false known rest none = rest known none
+    by_line true waiting rest none = rest (begun (policy_said line) []) none
+    by_line true (begun (Err first) history) rest none = rest (begun (Err first) history) none
+    by_line true (begun (Ok policy) history) rest none =
+        absurd (other policy (sym (policy_stays policy (history_with history (guarded_line policy line)) lines) ∙ none))
+
+-- a guard that refuses its input knows no policy
+none_known : (known : Known) (fault : JsonFault) →
+    ((line : Line) × guard_work.Refuses known line fault) ⊎ guard_work.RefusesEnd known fault →
+    (fault : JsonFault) × (said_in known ≡ Err fault)
+none_known waiting fault refuses = (_, refl)
+none_known (begun said history) fault (inl refused) = absurd refused.1.1
+none_known (begun said history) fault (inr refuses) = (fault, refuses)
+
+-- so it has written nothing
+pub unwritten : (fault : JsonFault) (held held' : Option (List ℕ)) →
+    RefusesBehind guard_work waiting held held' fault → Keeps held held'
+unwritten fault held held' behind =
+    let none = none_known (after_each guard_work waiting behind.lines) fault behind.refuses in
+    appends_nothing held held' (replies_to guard_work waiting behind.lines)
+    (nothing_replied_to none.0 waiting behind.lines none.1) behind.written
+
+-- ---- the law
+
 -- a policy that has no fault is said
 said_well : (said : ReadResult PlainPolicy) → ((fault : JsonFault) → ¬ (said ≡ Err fault)) →
     (policy : PlainPolicy) × (said ≡ Ok policy)
@@ -85,4 +146,5 @@ said_well (Err fault) faultless = absurd (faultless fault refl)
 
 -- inputs are refused for the faults of their policies
 pub refusals : RefusalsAreFaults
-refusals = record { refused = refused; accepted = λ bytes accepts. said_well (policy_of bytes) accepts.1 }
+refusals =
+    record { refused = refused; unwritten = unwritten; accepted = λ bytes accepts. said_well (policy_of bytes) accepts.1 }

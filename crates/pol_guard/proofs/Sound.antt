@@ -38,12 +38,6 @@ record IsAdmitted (policy : PlainPolicy) (line : Line) (event : PlainEvent) : Ty
   verdict : (request : Request) → asked_by event person ≡ Some request →
       (rule : List ℕ) × (verdict_of policy request ≡ Allowed rule)
 
--- what an event asks, and the verdict on that
-record IsAsked (policy : PlainPolicy) (event : PlainEvent) (person : Option (List ℕ)) (verdict : Verdict) : Type 0 where
-  request : Request
-  asks : asked_by event person ≡ Some request
-  answers : verdict_of policy request ≡ verdict
-
 -- the verdict on an event that asks something is that on what it asks
 asked_verdict : (policy : PlainPolicy) (event : PlainEvent) (person : Option (List ℕ)) (request : Request) →
     asked_by event person ≡ Some request → verdict_on policy event person ≡ Some (verdict_of policy request)
@@ -53,77 +47,71 @@ asked_verdict policy (desk at tag service command) (Some person) request asks =
     ap (λ request. Some (verdict_of policy request)) same
 asked_verdict policy event person request asks = absurd cc
 
--- an event on which there is a verdict asks something, where a command of the desk names who gives it
-verdict_asked : (policy : PlainPolicy) (event : PlainEvent) (person : Option (List ℕ)) (verdict : Verdict) →
-    is_some person ≡ is_desk event → verdict_on policy event person ≡ Some verdict →
-    IsAsked policy event person verdict
-verdict_asked policy (desk at tag service command) None verdict named is = absurd cc
-verdict_asked policy (desk at tag service command) (Some person) verdict named is =
-    record { request = request_of person tag service command; asks = refl; answers = cc }
-verdict_asked policy event person verdict named is = absurd cc
+-- an event is admitted as it is
+admitted_same : (event other : PlainEvent) (verdict : Option Verdict) → by_verdict event verdict ≡ admitted other →
+    event ≡ other
+admitted_same event other None is = cc
+admitted_same event other (Some (Allowed rule)) is = cc
+admitted_same event other (Some (Denied rule)) is = absurd cc
+
+-- and where there is a verdict, it allows
+admitted_allowed : (event other : PlainEvent) (verdict : Option Verdict) (on_it : Verdict) → verdict ≡ Some on_it →
+    by_verdict event verdict ≡ admitted other → (rule : List ℕ) × (on_it ≡ Allowed rule)
+admitted_allowed event other None on_it verdict is = absurd cc
+admitted_allowed event other (Some (Allowed rule)) on_it verdict is = (rule, cc)
+admitted_allowed event other (Some (Denied rule)) on_it verdict is = absurd cc
+
+-- where one is denied, the verdict on it is so
+denied_verdict : (event : PlainEvent) (verdict : Option Verdict) (rule : Option (List ℕ)) →
+    by_verdict event verdict ≡ denied rule → verdict ≡ Some (Denied rule)
+denied_verdict event None rule is = absurd cc
+denied_verdict event (Some (Allowed other)) rule is = absurd cc
+denied_verdict event (Some (Denied other)) rule is = cc
 
 module _ (policy : PlainPolicy) (text : List ℕ) where
-  -- what a line says that isn't denied, by the verdict on it
-  admitted_by : (said : PlainGuarded) (event : PlainEvent) (verdict : Option Verdict) → guarded_of text ≡ Ok said →
-      verdict_on policy said.event said.person ≡ verdict → by_verdict said.event verdict ≡ admitted event →
-      IsAdmitted policy (Some text) event
-  admitted_by said event None says judged is =
-      let same : said.event ≡ event = cc in
-      subst (IsAdmitted policy (Some text)) same (record {
+  -- what a line says that isn't denied
+  admitted_event : (event other : PlainEvent) (person : Option (List ℕ)) →
+      guarded_of text ≡ Ok (record { event = event; person = person }) →
+      by_verdict event (verdict_on policy event person) ≡ admitted other → IsAdmitted policy (Some text) other
+  admitted_event event other person says is =
+      subst (IsAdmitted policy (Some text)) (admitted_same event other (verdict_on policy event person) is) (record {
         text = text;
         is_text = refl;
-        person = said.person;
+        person = person;
         says = says;
-        verdict = λ request asked.
-            let both = sym judged ∙ asked_verdict policy said.event said.person request asked in absurd (none both);
+        verdict = λ request asks. admitted_allowed event other (verdict_on policy event person)
+            (verdict_of policy request) (asked_verdict policy event person request asks) is;
       })
-    where
-      none : {verdict : Verdict} → None ≡ Some verdict → ⊥
-      none same = cc
-  admitted_by said event (Some (Denied rule)) says judged is = absurd cc
-  admitted_by said event (Some (Allowed rule)) says judged is =
-      let same : said.event ≡ event = cc in
-      subst (IsAdmitted policy (Some text)) same (record {
-        text = text;
-        is_text = refl;
-        person = said.person;
-        says = says;
-        verdict = λ request asked.
-            (rule, one (sym judged ∙ asked_verdict policy said.event said.person request asked));
-      })
-    where
-      one : {verdict other : Verdict} → Some verdict ≡ Some other → other ≡ verdict
-      one same = cc
 
   -- by what it says
   admitted_said : (said : Result PlainGuarded LineFault) (event : PlainEvent) → guarded_of text ≡ said →
       guarded_saying policy said ≡ admitted event → IsAdmitted policy (Some text) event
   admitted_said (Err fault) event says is = absurd cc
-  admitted_said (Ok said) event says is =
-      admitted_by said event (verdict_on policy said.event said.person) says refl is
+  admitted_said (Ok said) event says is = admitted_event said.event event said.person says is
 
-  -- what is denied on a line, by the verdict on it
-  denied_by : VerdictsAreJudged → (said : PlainGuarded) (rule : Option (List ℕ)) (verdict : Option Verdict) →
-      guarded_of text ≡ Ok said → verdict_on policy said.event said.person ≡ verdict →
-      by_verdict said.event verdict ≡ denied rule → IsDenied policy (Some text) rule
-  denied_by judged said rule None says answers is = absurd cc
-  denied_by judged said rule (Some (Allowed other)) says answers is = absurd cc
-  denied_by judged said rule (Some (Denied other)) says answers is =
-      let same : other ≡ rule = cc in
-      let asked = verdict_asked policy said.event said.person (Denied other) (line_said text said says).named answers in
+  -- what is denied on a line: a command of the desk that names who gives it
+  denied_event : VerdictsAreJudged → (event : PlainEvent) (person : Option (List ℕ)) (rule : Option (List ℕ)) →
+      is_some person ≡ is_desk event → guarded_of text ≡ Ok (record { event = event; person = person }) →
+      verdict_on policy event person ≡ Some (Denied rule) → IsDenied policy (Some text) rule
+  denied_event judged (desk at tag service command) None rule named says verdict = absurd cc
+  denied_event judged (desk at tag service command) (Some person) rule named says verdict =
+      let request = request_of person tag service command in
+      let denies : verdict_of policy request ≡ Denied rule = cc in
       record {
-        event = said.event;
-        request = asked.request;
-        asks = record { text = text; is_text = refl; person = said.person; says = says; asks = asked.asks };
-        judges = subst (Judges policy asked.request) (asked.answers ∙ ap Denied same) (judged policy asked.request);
+        event = desk at tag service command;
+        request = request;
+        asks = record { text = text; is_text = refl; person = Some person; says = says; asks = refl };
+        judges = subst (Judges policy request) denies (judged policy request);
       }
+  denied_event judged event person rule named says verdict = absurd cc
 
   -- by what it says
   denied_said : VerdictsAreJudged → (said : Result PlainGuarded LineFault) (rule : Option (List ℕ)) →
       guarded_of text ≡ said → guarded_saying policy said ≡ denied rule → IsDenied policy (Some text) rule
   denied_said judged (Err fault) rule says is = absurd cc
   denied_said judged (Ok said) rule says is =
-      denied_by judged said rule (verdict_on policy said.event said.person) says refl is
+      denied_event judged said.event said.person rule (line_said text said says).named says
+      (denied_verdict said.event (verdict_on policy said.event said.person) rule is)
 
 -- an event that isn't denied stands on its line, and the policy allows what it asks there
 admitted_line : (policy : PlainPolicy) (line : Line) (event : PlainEvent) →

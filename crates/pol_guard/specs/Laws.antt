@@ -3,6 +3,7 @@ use Rattle.std.specs.Prelude.{ℕ, ◌≡◌, List, map, Option, Some, Ok, Err}
 use Rattle.std.specs.Io.KnownBytes.{Keeps}
 use Rattle.std.specs.List.{Contains}
 use Rattle.mtp_codes.specs.declared.command.Command.{Command}
+use Rattle.pol_jobs.specs.Deeds.{RefusesBehind}
 use Rattle.pol_jobs.specs.Ends.{IsRefused}
 use Rattle.pol_jobs.specs.LineWork.{AcceptsAll, Line}
 use Rattle.mtp_json.specs.declared.fault.JsonFault.{JsonFault}
@@ -15,6 +16,7 @@ use Rattle.pol_history.specs.Runs.{IsLegal, IsOrderly, run_of}
 use Rattle.pol_removal.specs.Removal.{entries_without}
 use Rattle.pol_guard.specs.Guarded.{admitted_under, guarded, history_under, journal_of, policy_of}
 use Rattle.pol_guard.specs.Lines.{asked_by, guarded_line, denied}
+use Rattle.pol_guard.specs.Work.{guard_work, waiting}
 
 -- the line says this event, which asks this of a policy
 pub record Asks (line : Line) (event : PlainEvent) (request : Request) : Type 0 where
@@ -61,9 +63,11 @@ pub record IsGuarded (policy : PlainPolicy) (journal : List Line) : Type 0 where
 abbrev pub GuardTheorem : List ℕ → Type 0
 GuardTheorem bytes = (policy : PlainPolicy) → policy_of bytes ≡ Ok policy → IsGuarded policy (journal_of bytes)
 
--- an input is refused for the fault of its policy alone, and nothing is written then; one that isn't refused has a
--- policy
+-- an input is refused for the fault of its policy alone, and nothing is written then, whatever the source tells of its
+-- bytes; one that isn't refused has a policy
 pub record RefusalsAreFaults : Type 0 where
   pub refused : (fault : JsonFault) (held held' : Option (List ℕ)) (bytes left : List ℕ) →
       IsRefused guarded fault held held' bytes left → (policy_of bytes ≡ Err fault) × Keeps held held'
+  pub unwritten : (fault : JsonFault) (held held' : Option (List ℕ)) →
+      RefusesBehind guard_work waiting held held' fault → Keeps held held'
   pub accepted : (bytes : List ℕ) → AcceptsAll guarded bytes → (policy : PlainPolicy) × (policy_of bytes ≡ Ok policy)
