@@ -21,11 +21,13 @@ use Rattle.pol_jobs.proofs.Ending.{completes}
 use Rattle.pol_jobs.proofs.Written.{nothing_written}
 use Rattle.pol_store.specs.Keeping.{StoreState}
 use Rattle.pol_store.specs.Opens.{IsLeftOf}
-use Rattle.pol_store.specs.declared.opening.OpenFault.{OpenFault}
-use Rattle.pol_store.specs.declared.opening.OpenFault.TheVariants as opening
+use Rattle.pol_kept.specs.declared.opening.OpenFault.{OpenFault}
+use Rattle.pol_kept.specs.declared.opening.OpenFault.TheVariants as opening
 use Rattle.pol_store.specs.Stands.{StandsFor}
-use Rattle.pol_store.proofs.Histories.{legal_few, length-events}
-use Rattle.pol_store.proofs.Opened.{left_images, short_stands}
+use Rattle.pol_store.proofs.Histories.{legal_few}
+use Rattle.pol_store.specs.Lawful.{length-events}
+use Rattle.pol_kept.proofs.Opened.{left_images, short_stands}
+use Rattle.pol_store.specs.Work.{plant_work}
 use Rattle.pol_store.proofs.Texts.{one_history}
 use Rattle.pol_keep.specs.Keeping.{IsKept, Telling, Tells}
 use Rattle.pol_keep.specs.Kept.{IsFaultOf, IsUnopened, KeepEnds, Keeps, StandsForAnswered, StandsForMore, answers_with}
@@ -140,7 +142,7 @@ module _ {D : Type 0} (disk : Telling D) (first : D) (old : List PlainEvent) (re
   left_old image (inl before) = inl before
   left_old image (inr one) =
       inr (subst (λ (events : List PlainEvent). StandsFor events image)
-      (one_history reads.bytes [] old (short_stands reads.bytes one.1) reads.stand) one.2)
+      (one_history reads.bytes [] old (short_stands plant_work reads.bytes one.1) reads.stand) one.2)
 
   module _ (mid : D) (left : LeavesOnly disk.moment disk.left_since first mid
       (IsLeftOf reads.bytes (disk.images first))) where

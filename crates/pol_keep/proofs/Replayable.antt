@@ -13,8 +13,9 @@ use Rattle.pol_history.proofs.Legal.{legal_after}
 use Rattle.pol_record.specs.Lines.{closing_text, output_of}
 use Rattle.pol_record.specs.Texts.{IsReadBack, answer_text, event_text}
 use Rattle.pol_retold.specs.Replayed.{IsShortEvent, ReplaysAnswer, journal_of}
-use Rattle.pol_store.specs.Stands.{AreTextsOf}
-use Rattle.pol_store.proofs.Histories.{recorded_is, room_recorded}
+use Rattle.pol_kept.specs.Stands.{AreTextsOf}
+use Rattle.pol_store.specs.Lawful.{recorded_is, room_recorded}
+use Rattle.pol_store.specs.Work.{plant_work}
 use Rattle.pol_keep.specs.Exported.{JournalsAreReplayed, event_line, journal_text}
 use Rattle.pol_keep.proofs.Orderly.{all_reverse}
 
@@ -49,13 +50,13 @@ all_run P history [] all = tt
 all_run P history (event ∷ events) all = (all.0, all_run P (recorded (entry_of history event) history) events all.1)
 
 -- kept events are read back
-read_back : (events : List PlainEvent) (texts : List (List ℕ)) → AreTextsOf events texts →
+read_back : (before events : List PlainEvent) (texts : List (List ℕ)) → AreTextsOf plant_work before events texts →
     AllByRecursion (λ (event : PlainEvent). event_of (event_text event) ≡ Ok event) events
-read_back [] texts are = tt
-read_back (event ∷ events) [] are = absurd are
-read_back (event ∷ events) (text ∷ texts) are = (
+read_back before [] texts are = tt
+read_back before (event ∷ events) [] are = absurd are
+read_back before (event ∷ events) (text ∷ texts) are = (
   subst (λ (bytes : List ℕ). event_of bytes ≡ Ok event) are.0.written are.0.reads,
-  read_back events texts are.1,
+  read_back (before ++ event ∷ []) events texts are.1,
 )
 
 -- so what pol_retold says of a history's journal holds of theirs
@@ -64,7 +65,7 @@ journals_replayed replays events image stands few replayable =
     let history = history_after [] events in
     let is : reverse history ≡ run_of events = run_behind [] events (omega (arith, few)) in
     let read = all_run (λ (event : PlainEvent). event_of (event_text event) ≡ Ok event) [] events
-    (read_back events stands.texts stands.are) in
+    (read_back [] events stands.texts stands.are) in
     let short = all_run (λ (event : PlainEvent). length (event_text event) ≤ LONGEST_LINE) [] events replayable.lines in
     let journal : journal_of history ≡ journal_text events =
     ap (flat_map (λ (entry : PlainEntry). event_line entry.event)) is ∙ journal_run [] events in

@@ -22,7 +22,7 @@ use Rattle.pol_replay.specs.Replay.{replay_work}
 use Rattle.pol_replay.proofs.Replaying.{after_rows, replies_rows}
 use Rattle.pol_store.specs.Keeping.{StoreState}
 use Rattle.pol_store.specs.Stands.{StandsFor}
-use Rattle.pol_store.proofs.Histories.{events-cons, recorded_is}
+use Rattle.pol_store.specs.Lawful.{events-cons, recorded_is}
 use Rattle.pol_keep.specs.Keeping.{GoesOn, IsKept, StandsForSome, Telling, after_lines}
 use Rattle.pol_keep.specs.Kept.{StandsForAnswered, StandsForMore, answers_with, events_with, kept_events, kept_output}
 use Rattle.pol_keep.specs.Kept.{run_with}

@@ -16,10 +16,10 @@ use Rattle.pol_replay.specs.Replay.{replay_work}
 use Rattle.pol_store.specs.Keeping.{HasParts, KeepsAll, LeavesGroup, StoreState}
 use Rattle.pol_store.specs.Refusals.{Fails}
 use Rattle.pol_store.specs.Stands.{StandsFor, StandsWithAllOrNone}
-use Rattle.pol_store.specs.declared.store.CommitFault.{CommitFault}
-use Rattle.pol_store.specs.declared.store.CommitFault.TheVariants as of_group
-use Rattle.pol_store.proofs.Histories.{events-cons, recorded_is}
-use Rattle.pol_store.proofs.Opened.{left_images}
+use Rattle.pol_kept.specs.declared.kept.CommitFault.{CommitFault}
+use Rattle.pol_kept.specs.declared.kept.CommitFault.TheVariants as of_group
+use Rattle.pol_store.specs.Lawful.{events-cons, recorded_is}
+use Rattle.pol_kept.proofs.Opened.{left_images}
 use Rattle.pol_texts.specs.Settled.{AreAlike}
 use Rattle.pol_keep.specs.Keeping.{Admits, GoesOn, HasMet, IsKept, StandsForSome, Telling, after_lines}
 

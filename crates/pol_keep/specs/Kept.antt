@@ -16,8 +16,8 @@ use Rattle.pol_jobs.specs.declared.fault.JobFault.{JobFault}
 use Rattle.pol_jobs.specs.declared.fault.JobFault.TheVariants as job
 use Rattle.pol_record.specs.Lines.{answered_lines_after, answered_texts, closing_text, events_in, input_line_of}
 use Rattle.pol_store.specs.Stands.{StandsFor}
-use Rattle.pol_store.specs.declared.opening.OpenFault.{OpenFault}
-use Rattle.pol_store.specs.declared.opening.OpenFault.TheVariants as opening
+use Rattle.pol_kept.specs.declared.opening.OpenFault.{OpenFault}
+use Rattle.pol_kept.specs.declared.opening.OpenFault.TheVariants as opening
 use Rattle.pol_keep.specs.declared.fault.DiskFailed.{DiskFailed}
 use Rattle.pol_keep.specs.declared.fault.KeepFault.{KeepFault}
 use Rattle.pol_keep.specs.declared.fault.KeepFault.TheVariants.{Read, Write, Memory, TooMuch, Disk, NotAStore}

@@ -11,32 +11,13 @@ use Rattle.pol_history.specs.Looking.{History}
 use Rattle.pol_history.specs.Runs.{IsLegal, entry_of, is_recorded, recorded, history_after, events_of}
 use Rattle.pol_history.specs.Answers.{answer_of}
 use Rattle.pol_record.proofs.Appending.{history_after_append}
-
--- the events of a history with one entry more
-pub events-cons : (entry : PlainEntry) (history : History) →
-    events_of (entry ∷ history) ≡ events_of history ++ entry.event ∷ []
-events-cons entry history = reverse-append (entry.event ∷ []) (map (λ (e : PlainEntry). e.event) history)
-
--- a history has as many events as entries
-pub length-events : (history : History) → length (events_of history) ≡ length history
-length-events history =
-    length-reverse (map (λ (e : PlainEntry). e.event) history) ∙ length-map history (λ (e : PlainEntry). e.event)
+use Rattle.pol_store.specs.Lawful.{events-cons, length-events, recorded_is}
 
 -- that of a plant too
 pub length-plant : (plant : PlainPlant) → length (events_of (plant_history plant)) ≡ length plant.entries
 length-plant plant =
     length-events (plant_history plant) ∙ length-reverse (map plain_entry plant.entries)
     ∙ length-map plant.entries plain_entry
-
--- where the answer is recorded, the entry is new
-pub recorded_is : (history : History) (event : PlainEvent) → is_recorded (answer_of history event) ≡ true →
-    recorded (entry_of history event) history ≡ entry_of history event ∷ history
-recorded_is history event is = rw is refl
-
--- where the history has room, an event is recorded
-pub room_recorded : (history : History) (event : PlainEvent) → length history < LONGEST_HISTORY →
-    is_recorded (answer_of history event) ≡ true
-room_recorded history event room = recorded_with_room history event (lt-leb LONGEST_HISTORY (length history) room)
 
 -- a legal history is the run of its events
 pub runs_legal : (history : History) → IsLegal history → history ≡ history_after [] (events_of history)

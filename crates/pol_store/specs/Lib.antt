@@ -1,6 +1,7 @@
+pub mod Work
+pub mod Lawful
 pub mod Stands
 pub mod Keeping
-pub mod Records
 pub mod Opens
 pub mod Refusals
 pub mod Written

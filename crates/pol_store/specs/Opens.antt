@@ -1,50 +1,20 @@
 -- What opening finds.
-use Rattle.std.specs.Prelude.{◌≡◌, ◌⊎◌, ◌≤◌, ◌<◌, ℕ, List, [], length, Option, IfSome}
-use Rattle.mtp_codes.specs.declared.limits.TheConstants.{LONGEST_HISTORY}
-use Rattle.pol_disk.specs.Disks.{StillTells}
-use Rattle.pol_texts.specs.Stands.{Begins}
-use Rattle.pol_events.specs.Events.{PlainEvent}
-use Rattle.pol_store.specs.declared.opening.OpenFault.{OpenFault}
-use Rattle.pol_store.specs.declared.opening.OpenFault.TheVariants.{Memory, Disk, NotAStore}
-use Rattle.pol_store.specs.Stands.{AreTextsOf, BreaksAt, StandsFor, StandsForNone}
-use Rattle.pol_store.specs.Keeping.{KeepsEvents}
-
--- the image begins with the records of these events, at most 200,000, and a closed gate at this place
-pub record IsReplayed (image : List ℕ) (end : ℕ) (events : List PlainEvent) : Type 0 where
-  pub texts : List (List ℕ)
-  pub are : AreTextsOf events texts
-  pub begins : Begins image texts
-  pub ends : end ≡ length begins.records
-  pub few : length events ≤ LONGEST_HISTORY
-
--- where it is no store, its first record that isn't one stands at this place
-abbrev pub Breaks : List ℕ → OpenFault → Type 0
-Breaks image Memory = Unit {0}
-Breaks image Disk = Unit {0}
-Breaks image (NotAStore place) = BreaksAt place image
+use Rattle.std.specs.Prelude.{ℕ, List, Option}
+use Rattle.pol_kept.specs.Opens as of_items
+use Rattle.pol_kept.specs.declared.opening.OpenFault.{OpenFault}
+use Rattle.pol_store.specs.Work.{plant_work}
 
 -- the disk is no store: it reads as more than one byte, no list of at most 200,000 events stands for these bytes, and
 -- the first record that isn't one stands at this place
-pub record IsNoStore (image : List ℕ) (place : ℕ) : Type 0 where
-  pub long : 1 < length image
-  pub none : StandsForNone image
-  pub breaks : BreaksAt place image
+abbrev pub IsNoStore : List ℕ → ℕ → Type 0
+IsNoStore image place = of_items.IsNoStore plant_work image place
 
 -- what a fault says, where the disk tells its bytes still: of NotAStore, that no call of the disk failed; of Memory,
 -- that reads give what they gave
 abbrev pub Tells : OpenFault → Option (List ℕ) → Option (List ℕ) → ℕ → ℕ → Type 0
-Tells Memory seen seen' faults faults' = StillTells seen seen'
-Tells Disk seen seen' faults faults' = Unit {0}
-Tells (NotAStore place) seen seen' faults faults' =
-    (faults' ≡ faults) × StillTells seen seen' × IfSome seen' (λ image. IsNoStore image place)
-
--- the disk read as these bytes, which stand for the events, and it keeps the events now
-pub record IsOpened (all : List ℕ) (seen : Option (List ℕ)) (images : List ℕ →
-    Type 0) (end : ℕ) (events : List PlainEvent) : Type 0 where
-  pub stood : StandsFor events all
-  pub kept : KeepsEvents seen images end events
+Tells fault seen seen' faults faults' = of_items.Tells plant_work fault seen seen' faults faults'
 
 -- what opening a disk leaves that reads as these bytes: an image that a crash might have left before; or one that
 -- stands for no event, where a crash might have left these bytes, and there is at most one of them
 abbrev pub IsLeftOf : List ℕ → (List ℕ → Type 0) → List ℕ → Type 0
-IsLeftOf all images image = images image ⊎ (images all × (length all ≤ 1) × StandsFor [] image)
+IsLeftOf all images image = of_items.IsLeftOf plant_work all images image

@@ -2,19 +2,19 @@
 use Rattle.std.specs.Prelude.{◌≡◌, ℕ, true, false}
 use Rattle.pol_io.specs.Causes.{Rose}
 use Rattle.pol_events.specs.declared.event.Event.{Event}
-use Rattle.pol_store.specs.declared.store.StoreRefusal.{StoreRefusal}
-use Rattle.pol_store.specs.declared.store.StoreRefusal.TheVariants as of_event
-use Rattle.pol_store.specs.declared.store.CommitFault.{CommitFault}
-use Rattle.pol_store.specs.declared.store.CommitFault.TheVariants as of_group
+use Rattle.pol_kept.specs.declared.kept.KeptRefusal.{KeptRefusal}
+use Rattle.pol_kept.specs.declared.kept.KeptRefusal.TheVariants as of_event
+use Rattle.pol_kept.specs.declared.kept.CommitFault.{CommitFault}
+use Rattle.pol_kept.specs.declared.kept.CommitFault.TheVariants as of_group
 use Rattle.pol_store.specs.Keeping.{StoreState}
 
 -- the disk failed in this call, and the store is closed
 abbrev pub Closes : {D : Type 0} → (D → ℕ) → StoreState D → StoreState D → Type 0
 Closes faults old new = (old.closed ≡ false) × (new.closed ≡ true) × Rose (faults old.disk) (faults new.disk)
 
--- Memory changes nothing: the events, those of them that wait, and the disk are as before; Disk comes where the disk
+-- Memory changes nothing: the entries, those of them that wait, and the disk are as before; Disk comes where the disk
 -- failed; Closed comes exactly of a closed store
-abbrev pub Refuses : {D : Type 0} → (D → ℕ) → StoreState D → StoreState D → Event → StoreRefusal → Type 0
+abbrev pub Refuses : {D : Type 0} → (D → ℕ) → StoreState D → StoreState D → Event → KeptRefusal Event → Type 0
 Refuses faults old new event (of_event.Memory back) =
     (back ≡ event) × (old.closed ≡ false) × (new.closed ≡ false) × (new.plant.entries ≡ old.plant.entries)
     × (new.waiting ≡ old.waiting) × (new.disk ≡ old.disk)

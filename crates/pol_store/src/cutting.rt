@@ -3,8 +3,7 @@ ghost use Rattle.std.specs.Prelude.{◌≡◌, ◌<◌, [], List, length, IfNone
 ghost use Rattle.pol_events.specs.Events.{PlainEvent};
 ghost use Rattle.pol_store.specs.Stands.{HasFirst, StandsFor};
 
-use crate::records::GATE_AND_LENGTH;
-use pol_texts::{Found, find};
+use crate::chronicle::KeptPlant;
 
 /// The text of the first event that an image stands for, and what stands behind its record: an image that stands for
 /// the others. None where the image stands for no event.
@@ -14,8 +13,5 @@ pub fn first_text(image: &[u8]) -> Option<(&[u8], &[u8])>
     ensures none { IfNone result ((events : List PlainEvent) → StandsFor events image.now → events ≡ []) }
     ensures shorter { IfSome result (λ cut. length cut.1.now < length image.now) }
 {
-    match find(image) {
-        Found::Text(text) => Some((text, &image[GATE_AND_LENGTH + text.len()..])),
-        Found::Closed | Found::Neither => None,
-    }
+    pol_kept::first_text::<KeptPlant>(image)
 }

@@ -3,22 +3,21 @@
 //! Its main contracts are those of `Store::open`, which finds again what the disk keeps, of `Store::admit`, which
 //! answers as the plant does, and of `Store::commit`, which keeps all that were admitted, by two syncs; `Store::apply`
 //! is both for one event (`specs/Keeping.antt`). `specs/Stands.antt` says which events an image of the disk stands
-//! for, and `first_text` cuts their texts from it, one after another. A record is a text of `pol_texts`: the compact
-//! JSON of an event, as a journal's line has it. This crate knows nothing of files, of lines of input, or of where
-//! answers go.
+//! for, and `first_text` cuts their texts from it, one after another. All of it is `pol_kept` over a plant: what this
+//! crate adds is the text of an event, the compact JSON that a journal's line has (`specs/Work.antt`). It knows nothing
+//! of files, of lines of input, or of where answers go.
 //!
 //! Tried in `pol_examples`.
 #![tactic(auto)]
 
+mod chronicle;
 mod cutting;
 mod laws;
-mod opening;
 mod records;
-mod replaying;
 mod store;
 mod writing;
 
 pub use cutting::first_text;
 pub use laws::{histories_are_runs, images_stand_for_one_list};
-pub use opening::OpenFault;
-pub use store::{CommitFault, Store, StoreRefusal};
+pub use pol_kept::{CommitFault, OpenFault};
+pub use store::{Store, StoreRefusal};

@@ -1,5 +1,5 @@
 //! A plant whose events are kept on a disk.
-ghost use Rattle.std.specs.Prelude.{◌≡◌, ◌+◌, ◌<◌, ◌^◌, ◌++◌, ◌∷◌, [], ℕ, List, Some, true, false, if◌then◌else◌, IfOk, IfErr, OnOk, IsTrue, length};
+ghost use Rattle.std.specs.Prelude.{◌≡◌, ◌+◌, ◌++◌, ◌∷◌, [], ℕ, List, Some, true, false, if◌then◌else◌, IfOk, IfErr, OnOk, IsTrue};
 ghost use Rattle.pol_io.specs.Causes.{Rose};
 ghost use Rattle.pol_disk.specs.Disks.{LeavesOnly, ToldOn};
 ghost use Rattle.pol_events.specs.Events.{PlainEvent, plain_event};
@@ -13,47 +13,20 @@ ghost use Rattle.pol_store.specs.Opens.{IsLeftOf, Tells};
 ghost use Rattle.pol_store.specs.Refusals.{Fails, Refuses};
 ghost use Rattle.pol_store.specs.Stands.{StandsFor};
 
-use crate::opening::{OpenFault, open_on};
-use crate::records::behind_gate;
+use crate::chronicle::KeptPlant;
 use pol_core::Plant;
 use pol_disk::Disk;
-use pol_events::{Answer, Event, Rule};
-use pol_texts::{add, stage};
+use pol_events::{Answer, Event};
+use pol_kept::{CommitFault, Kept, KeptRefusal, OpenFault};
 use std::alloc::Global;
 use std::marker::Model;
 
 /// Why an event isn't kept.
-#[derive(Drop)]
-pub enum StoreRefusal {
-    /// There was no memory; nothing has changed.
-    Memory(Event),
-    /// The disk failed; the store is closed.
-    Disk,
-    /// The store is closed.
-    Closed(Event),
-}
-
-/// Why the events that wait aren't kept.
-#[derive(Clone, Copy, Debug, PartialEq, Eq)]
-pub enum CommitFault {
-    /// The disk failed; the store is closed.
-    Disk,
-    /// The store is closed.
-    Closed,
-}
+pub type StoreRefusal = KeptRefusal<Event>;
 
 /// A plant and the disk that keeps its events.
 pub struct Store<D: Disk> {
-    alloc: Global,
-    plant: Plant,
-    disk: D,
-    // The place of the closed gate behind the last record.
-    end: u64,
-    // What is to be written behind that gate for the events that wait.
-    group: Vec<u8>,
-    // How many events wait.
-    waiting: u64,
-    closed: bool,
+    kept: Kept<D, KeptPlant>,
 }
 
 impl<D: Disk> Model for Store<D> {
@@ -66,38 +39,12 @@ impl<D: Disk> Model for Store<D> {
 
     ghost coded = { Prim.hlevel (codes, plant_type.the_row.coded, D.code) };
 
-    ghost use Rattle.pol_core.specs.Plants.{plant_history};
-    ghost use Rattle.pol_store.specs.Keeping.{IsFit, Keeps, Open};
-    ghost use Rattle.pol_history.specs.Runs.{events_of};
-
     ghost view = { λ store. record {
-      plant = store.plant;
-      disk = store.disk;
-      closed = store.closed;
-      waiting = store.waiting;
+      plant = store.kept.chronicle.plant;
+      disk = store.kept.disk;
+      closed = store.kept.closed;
+      waiting = store.kept.waiting;
     } };
-
-    ghost invariant = { λ store. Open store.closed
-        (IsFit store.end store.waiting store.group.items
-        × Keeps (D.bytes store.disk) (D.images store.disk) store.end store.group.items
-        (events_of (plant_history store.plant)) store.waiting) };
-}
-
-// Whether the event of such an answer is kept: all are, unless the history is full.
-fn is_kept(answer: &Answer) -> bool
-    ensures { result ≡ is_recorded answer.now }
-{
-    !matches!(answer, Answer::Refused(Rule::HistoryFull))
-}
-
-// Whether a group with this text more fits behind the end.
-fn has_place(end: u64, group: &[u8], behind: &[u8]) -> bool
-    ensures { IsTrue result → end + (length group.now + length behind.now) < 2 ^ 64 }
-{
-    match end.checked_add(group.len() as u64) {
-        Some(next) => next.checked_add(behind.len() as u64).is_some(),
-        None => false,
-    }
 }
 
 impl<D: Disk> Store<D> {
@@ -130,21 +77,13 @@ impl<D: Disk> Store<D> {
             (D.bytes disk) (D.bytes back.0) (D.faults disk) (D.faults back.0)) }
         ensures disk_cause { IfErr result (λ back. back.1 ≡ OpenFault.Disk → Rose (D.faults disk) (D.faults back.0)) }
     {
-        let mut disk = disk;
-        match open_on(alloc, &mut disk) {
-            Ok((plant, end, image)) => {
-                let store = Store {
-                    alloc,
-                    plant,
-                    disk,
-                    end,
-                    group: Vec::new(alloc),
-                    waiting: 0,
-                    closed: false,
-                };
-                Ok((store, image))
+        match Kept::<D, KeptPlant>::open(alloc, disk) {
+            Ok((kept, image)) => {
+                // Whose history is legal and orderly, as each plant's.
+                let _ = kept.chronicle().plant.history();
+                Ok((Store { kept }, image))
             }
-            Err(fault) => Err((disk, fault)),
+            Err(back) => Err(back),
         }
     }
 
@@ -155,29 +94,22 @@ impl<D: Disk> Store<D> {
             → (kept group : List PlainEvent) → HasParts self.now kept group
             → (image : List ℕ) → D.images self.now.disk image → StandsFor kept image }
     {
-        &self.plant
+        &self.kept.chronicle().plant
     }
 
     /// Whether a call of the disk failed.
     pub fn closed(&self) -> bool
         ensures { result ≡ self.now.closed }
     {
-        self.closed
+        self.kept.closed()
     }
 
     /// The plant and the disk.
     pub fn into_parts(self) -> (Plant, D)
         ensures { (result.0 ≡ self.plant) × (result.1 ≡ self.disk) }
     {
-        let Store {
-            alloc: _,
-            plant,
-            disk,
-            end: _,
-            group: _,
-            waiting: _,
-            closed: _,
-        } = self;
+        let Store { kept } = self;
+        let (KeptPlant { plant }, disk) = kept.into_parts();
         (plant, disk)
     }
 
@@ -196,25 +128,7 @@ impl<D: Disk> Store<D> {
         ensures closed { self.new.closed ≡ self.old.closed }
         ensures uncalled { self.new.disk ≡ self.old.disk }
     {
-        if self.closed {
-            return Err(StoreRefusal::Closed(event));
-        }
-        let Ok(behind) = behind_gate(self.alloc, &event) else {
-            return Err(StoreRefusal::Memory(event));
-        };
-        if !has_place(self.end, &self.group, &behind) || self.group.reserve(behind.len()).is_err() {
-            return Err(StoreRefusal::Memory(event));
-        }
-        let answer = match self.plant.apply(event) {
-            Ok(answer) => answer,
-            Err((event, _error)) => return Err(StoreRefusal::Memory(event)),
-        };
-        if !is_kept(&answer) {
-            return Ok(answer);
-        }
-        stage(&mut self.group, &behind);
-        self.waiting += 1;
-        Ok(answer)
+        self.kept.admit(event)
     }
 
     /// Keeps all events that wait, by two syncs, or by none where no event waits. At Ok each crash from now on leaves
@@ -231,20 +145,7 @@ impl<D: Disk> Store<D> {
         ensures kept { OnOk result (KeepsAll D.bytes D.images self.old self.new.disk) }
         ensures idle { self.old.waiting ≡ 0 → self.new.disk ≡ self.old.disk }
     {
-        if self.closed {
-            return Err(CommitFault::Closed);
-        }
-        if self.waiting == 0 {
-            return Ok(());
-        }
-        if add(&mut self.disk, self.end, &self.group).is_err() {
-            self.closed = true;
-            return Err(CommitFault::Disk);
-        }
-        self.end += self.group.len() as u64;
-        self.group.clear();
-        self.waiting = 0;
-        Ok(())
+        self.kept.commit()
     }
 
     /// Answers an event and keeps it, where no other one waits. At Ok each crash from now on leaves it, unless the
@@ -266,11 +167,6 @@ impl<D: Disk> Store<D> {
         ensures full { is_recorded (answer_of (plant_history self.old.plant) (plain_event event)) ≡ false
             → self.new.disk ≡ self.old.disk }
     {
-        let _ = &self.alloc;
-        let answer = self.admit(event)?;
-        match self.commit() {
-            Ok(()) => Ok(answer),
-            Err(_fault) => Err(StoreRefusal::Disk),
-        }
+        self.kept.apply(event)
     }
 }

@@ -4,7 +4,8 @@ use Rattle.pol_disk.proofs.Telling.{on_same, through_known}
 use Rattle.pol_events.specs.Events.{PlainEvent}
 use Rattle.pol_history.specs.Runs.{events_of}
 use Rattle.pol_store.specs.Stands.{StandsFor}
-use Rattle.pol_store.proofs.Histories.{legal_few, length-events}
+use Rattle.pol_store.proofs.Histories.{legal_few}
+use Rattle.pol_store.specs.Lawful.{length-events}
 use Rattle.pol_keep.specs.Exported.{exported_output}
 use Rattle.pol_keep.specs.Keeping.{telling}
 use Rattle.pol_keep.proofs.Ended.{keep_ends, keeps, on_ok_holds, opened_kept, opening_left, unopened_is}

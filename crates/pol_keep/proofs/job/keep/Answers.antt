@@ -4,7 +4,8 @@ use Rattle.pol_core.specs.Plants.{plant_history}
 use Rattle.pol_disk.proofs.Telling.{through_known, was_told}
 use Rattle.pol_history.specs.Runs.{events_of}
 use Rattle.pol_store.specs.Stands.{StandsFor}
-use Rattle.pol_store.proofs.Histories.{legal_few, length-events}
+use Rattle.pol_store.proofs.Histories.{legal_few}
+use Rattle.pol_store.specs.Lawful.{length-events}
 use Rattle.pol_keep.specs.Keeping.{telling}
 use Rattle.pol_keep.specs.Kept.{kept_output}
 use Rattle.pol_keep.proofs.Ended.{going_all, going_kept, going_moments, keep_ends, keeps, of_input, opened_kept}

@@ -1,22 +1,25 @@
-use Rattle.std.proofs.Common.{List, length, sym, subst, ◌+◌, ◌∙◌}
-use Rattle.std.proofs.lemmas.List.{take_rest}
+use Rattle.std.proofs.Common.{◌≡◌, List, []}
 use Rattle.pol_events.specs.Events.{PlainEvent}
+use Rattle.pol_kept.specs.Stands as of_items
 use Rattle.pol_store.specs.Stands.{HasFirst, StandsFor}
-use Rattle.pol_store.proofs.Firsts.{none_first, record_behind, text_first}
+use Rattle.pol_store.specs.Work.{plant_work}
+use Rattle.pol_store.proofs.Texts.{first_event, none_then, some_then}
 use Rattle.pol_store.proofs.cutting.first_text.Goals as goal
 
-pub returns-in-Text-clause-first : goal.returns-in-Text-clause-first
-returns-in-Text-clause-first c =
+pub returns-clause-first : goal.returns-clause-first
+returns-clause-first c =
     let image = c.args.image.now in
-    let text = c.in-Text.text.now in
-    let found = c.in-Text.ensures in
-    subst (λ behind. (events : List PlainEvent) → StandsFor events image → HasFirst text behind events)
-    (sym (take_rest image (9 + length text) ∙ record_behind text image found.0 found.1))
-    (text_first text image found.0 found.1)
+    some_then c.first_text.result
+    (λ cut. (before items : List PlainEvent) → of_items.StandsBehind plant_work before items image →
+    of_items.HasFirst plant_work before cut.0.now cut.1.now items)
+    (λ cut. (events : List PlainEvent) → StandsFor events image → HasFirst cut.0.now cut.1.now events)
+    (λ cut first events stands. first_event cut.0.now cut.1.now events (first [] events stands))
+    c.first_text.ensures.first
 
-pub returns-in-Closed : goal.returns-in-Closed
-returns-in-Closed c = record {
-  first = tt;
-  none = none_first c.args.image.now c.find.result c.find.ensures c.in-Closed.is;
-  shorter = tt;
-}
+pub returns-clause-none : goal.returns-clause-none
+returns-clause-none c =
+    let image = c.args.image.now in
+    none_then c.first_text.result
+    ((before items : List PlainEvent) → of_items.StandsBehind plant_work before items image → items ≡ [])
+    ((events : List PlainEvent) → StandsFor events image → events ≡ [])
+    (λ none events stands. none [] events stands) c.first_text.ensures.none

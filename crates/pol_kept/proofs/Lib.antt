@@ -1,0 +1,7 @@
+pub mod Texts
+mod Broken
+mod Replays
+mod Calls
+mod Applied
+pub mod Opened
+mod Firsts
