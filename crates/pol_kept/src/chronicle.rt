@@ -2,7 +2,7 @@
 ghost use Rattle.std.specs.Prelude.{◌≡◌, ◌≤◌, ℕ, List, [], IfOk, IfErr, OnOk, length};
 ghost use Rattle.std.specs.Bool.{Decides};
 ghost use Rattle.pol_kept.specs.Names.{Names, SoundOption};
-ghost use Rattle.pol_kept.specs.Work.{ChronicleWork, IsLawful};
+ghost use Rattle.pol_kept.specs.Work.{ChronicleWork, IsLawful, IsTextIfKept};
 
 use std::alloc::{AllocError, Global};
 
@@ -44,10 +44,10 @@ pub trait Chronicle: Drop {
     fn is_full(&self) -> bool
         ensures { Decides result (work.most ≤ length (work.items (state self.now))) };
 
-    /// The text of an item, if it happened now.
+    /// The text of an item, if it happened now and were kept.
     fn text_of(&self, alloc: Global, item: &Self::Item) -> Result<Vec<u8>, AllocError>
         requires { IsSound (plain item.now) }
-        ensures { IfOk result (λ text. work.IsTextOf (work.items (state self.now)) (plain item.now) text.items) };
+        ensures { IfOk result (λ text. IsTextIfKept work (state self.now) (plain item.now) text.items) };
 
     /// The item whose text this would be, if it happened now; None where there is none. The buffer is room to work in,
     /// so that many texts need no more of it than one.
@@ -60,7 +60,7 @@ pub trait Chronicle: Drop {
         ensures names { IfOk result (Names work plain (work.items (state self.now)) text.now) }
         ensures sound { IfOk result (SoundOption IsSound plain) };
 
-    /// Has an item happen, which has this text.
+    /// Has an item happen, which has this text if it is kept.
     ///
     /// # Errors
     ///
@@ -71,7 +71,7 @@ pub trait Chronicle: Drop {
         text: &[u8],
     ) -> Result<Self::Answer, (Self::Item, AllocError)>
         requires sound { IsSound (plain item) }
-        requires text { work.IsTextOf (work.items (state self.old)) (plain item) text.now }
+        requires text { IsTextIfKept work (state self.old) (plain item) text.now }
         ensures answer { IfOk result (λ answer. answer ≡ work.answer_of (state self.old) (plain item)) }
         ensures after { OnOk result (state self.new ≡ work.after (state self.old) (plain item)) }
         ensures refused { IfErr result (λ back. (back.0 ≡ item) × IsSame self.old self.new) };

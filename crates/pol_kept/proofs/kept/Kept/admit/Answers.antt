@@ -16,13 +16,13 @@ invariant_of-self-2 g c =
     let end = c.self.inside.end in
     let waiting = c.self.inside.waiting in
     let text = c.in-Ok.text.items in
-    let names : ch.work.IsTextOf items item text = c.in-Ok.ensures in
     let writes : WritesBehind text c.deref-5.result.now = subst (WritesBehind text) (sym c.deref-5.ensures.value)
     (subst (λ (l : List ℕ). WritesBehind l c.in-Ok-behind_gate.behind.items) c.deref.ensures.value
     c.in-Ok-behind_gate.ensures) in
     let is_new : ch.work.keeps c.in-Ok-apply.answer ≡ true = search (rules, not-false) in
     let told : ch.work.keeps (ch.work.answer_of (ch.state c.self.inside.chronicle) item) ≡ true = ap ch.work.keeps
     (sym c.in-Ok-apply.ensures.answer) ∙ is_new in
+    let names : ch.work.IsTextOf items item text = c.in-Ok.ensures told in
     let grown : after ≡ items ++ item ∷ [] = ap ch.work.items c.in-Ok-apply.ensures.after
     ∙ g.met.C.Chronicle.lawful.grows (ch.state c.self.inside.chronicle) item told in
     let was = open_is c.self.inside.closed _ c.if-self.false c.self.invariant in
