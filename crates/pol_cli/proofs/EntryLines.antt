@@ -1,6 +1,6 @@
 -- The lines of the entries of a history, one after another, and then what closes the output.
 use Rattle.std.proofs.Common.{ℕ, zero, suc, ◌+◌, ◌≡◌, ◌<◌, List, [], ◌∷◌, ◌++◌, length, arith, get_or, sym, ap, subst}
-use Rattle.std.proofs.Common.{◌∙◌, append_assoc, length-append, map, take}
+use Rattle.std.proofs.Common.{◌∙◌, append_assoc, length-append, map, take, true}
 use Rattle.std.proofs.lemmas.List.{reverse-reverse}
 use Rattle.std.proofs.lemmas.List.Folds.{flat_map-map}
 use Rattle.std.specs.Prelude.{Option}
@@ -8,9 +8,11 @@ use Rattle.std.specs.List.{AllByRecursion, flat_map}
 use Rattle.std.specs.Io.KnownBytes.{Appends}
 use Rattle.pol_io.proofs.Known.{Appends_trans}
 use Rattle.pol_events.specs.Events.{PlainEntry, plain_entry, plain_history}
+use Rattle.pol_events.specs.Orderly.{is_orderly}
 use Rattle.pol_events.specs.declared.event.Entry.{Entry}
 use Rattle.pol_history.specs.Looking.{History}
-use Rattle.pol_history.specs.Runs.{IsLegal}
+use Rattle.pol_history.specs.Runs.{IsLegal, IsOrderly}
+use Rattle.pol_keep.proofs.Orderly.{all_reverse}
 use Rattle.pol_record.specs.Lines.{closing_text}
 use Rattle.pol_record.specs.Texts.{batches_text, end_text, entry_line_text}
 use Rattle.pol_retold.specs.Inputs.{run_text}
@@ -21,7 +23,7 @@ use Rattle.pol_cli.specs.SiteRuns.{AreReadBack, AreRetold, IsRunOf, IsToldWell, 
 use Rattle.pol_jobs.specs.Written.{WritesPart, WritesSome}
 use Rattle.pol_replay.proofs.BatchLines.{some_end}
 
--- ---- what holds of each entry up to one
+-- ---- what holds of each entry, or of each up to one
 
 module _ (P : PlainEntry → Type 0) where
   -- it holds of each up to the next one too, where it holds of that one
@@ -41,6 +43,22 @@ module _ (P : PlainEntry → Type 0) where
       let more : suc place ≡ place + 1 = omega arith in
       subst (λ count. AllByRecursion P (map plain_entry (take count entries))) more
       (next_too entries place entry inside same before this)
+
+-- each entry of an orderly history is orderly
+each_orderly : (entries : List Entry) (place : ℕ) (default : Entry) → IsOrderly (map plain_entry entries) →
+    place < length entries → is_orderly (plain_entry (get_or entries place default)).event ≡ true
+each_orderly [] place default orderly inside = absurd (omega arith)
+each_orderly (entry ∷ entries) zero default orderly inside = orderly.0
+each_orderly (entry ∷ entries) (suc place) default orderly inside =
+    each_orderly entries place default orderly.1 (omega arith)
+
+-- so is the entry at a place, where the history of the entries is orderly
+pub entry_orderly : (entries : List Entry) (place : ℕ) (entry : Entry) → IsOrderly (plain_history entries) →
+    place < length entries → entry ≡ get_or entries place entry → is_orderly (plain_entry entry).event ≡ true
+entry_orderly entries place entry orderly inside same =
+    subst (λ each. is_orderly (plain_entry each).event ≡ true) (sym same)
+    (each_orderly entries place entry
+    (all_reverse (λ each. is_orderly each.event ≡ true) (map plain_entry entries) orderly) inside)
 
 -- ---- what is written of a legal history tells it
 

@@ -2,6 +2,8 @@
 use Rattle.std.proofs.Common.{ℕ, ◌≡◌, ◌⊎◌, List, refl, inl, inr}
 use Rattle.std.specs.Prelude.{Err}
 use Rattle.std.specs.declared.convert.Infallible.{Infallible}
+use Rattle.mtp_json.specs.declared.fault.FaultKind.{FaultKind}
+use Rattle.mtp_json.specs.declared.path.PathPart.{PathPart}
 use Rattle.pol_arguments.specs.declared.SerialTask.{SerialTask}
 use Rattle.pol_arguments.specs.declared.SerialTask.TheVariants.{Replay, Demo, Audit, Find, Guard, Migrate}
 use Rattle.pol_arguments.specs.declared.Task.{Task}
@@ -51,13 +53,19 @@ rested edge Same = record { before = edge; after = edge; Untouched = Same }
 abbrev pub rested_disk : {D : Type 0} → Telling D → D → Disks D
 rested_disk tells disk = record { tells = tells; before = disk; after = disk }
 
--- with no memory all isn't good, the disk didn't fail, and it isn't told to be no store
+-- with no memory all isn't good
 not_good : status.OutOfMemory ≡ status.Good → ⊥
 not_good is = cc
 
+-- no policy was refused
+not_refused : (path : List PathPart) (fault : FaultKind) → status.OutOfMemory ≡ status.BadPolicy path fault → ⊥
+not_refused path fault is = cc
+
+-- the disk didn't fail
 not_failed : status.OutOfMemory ≡ status.DiskFault → ⊥
 not_failed is = cc
 
+-- and it isn't told to be no store
 not_stored : (place : ℕ) → status.OutOfMemory ≡ status.NotAStore place → ⊥
 not_stored place is = cc
 
@@ -81,8 +89,11 @@ module _ (source sink : Edge) (SameSource SameSink : Type 0) (source_same : Same
       record { job = no_memory_ends audited no_refusal source SameSource; audits = laws.audits }
   serial_unbegun laws Find =
       record { job = no_memory_ends found no_refusal source SameSource; bindings = laws.bindings }
-  serial_unbegun laws Guard =
-      record { job = no_memory_ends guarded (refused_as Policy) source SameSource; guards = laws.guards }
+  serial_unbegun laws Guard = record {
+    job = no_memory_ends guarded (refused_as Policy) source SameSource;
+    unwritten = λ path fault is. absurd (not_refused path fault is);
+    guards = laws.guards;
+  }
   serial_unbegun laws Migrate =
       record { job = no_memory_ends migrating no_refusal source SameSource; migrations = laws.migrations }
 

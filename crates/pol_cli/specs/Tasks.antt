@@ -1,6 +1,9 @@
 -- How each task ended, a record for each, and what the words have to do with it.
 use Rattle.std.specs.Prelude.{ℕ, ◌≡◌, ◌≢◌, ◌⊎◌, List, [], Result, IfSome}
+use Rattle.std.specs.Io.KnownBytes.{Keeps}
 use Rattle.std.specs.declared.convert.Infallible.{Infallible}
+use Rattle.mtp_json.specs.declared.fault.FaultKind.{FaultKind}
+use Rattle.mtp_json.specs.declared.path.PathPart.{PathPart}
 use Rattle.pol_disk.specs.Disks.{told_through}
 use Rattle.pol_events.specs.Events.{PlainEvent}
 use Rattle.pol_arguments.specs.Words.{Means}
@@ -31,7 +34,7 @@ use Rattle.pol_cli.specs.Worked.{Disks, Edges, no_source}
 use Rattle.pol_cli.specs.declared.status.Wanted.TheVariants.{Site, Policy}
 use Rattle.pol_cli.specs.declared.status.Status.{Status}
 use Rattle.pol_cli.specs.declared.status.Status.TheVariants.{Good, BadWords, WriteFault, OutOfMemory}
-use Rattle.pol_cli.specs.declared.status.Status.TheVariants.{DiskFault, NotAStore}
+use Rattle.pol_cli.specs.declared.status.Status.TheVariants.{BadPolicy, DiskFault, NotAStore}
 
 -- the output of the demo of a seed: nothing for lines, and in all the summary of its journal
 abbrev pub demonstrated : ℕ → Output Infallible
@@ -73,6 +76,9 @@ pub record FindEnds (source sink : Edges) (status : Status) : Type 0 where
 pub record GuardEnds (source sink : Edges) (status : Status) : Type 0 where
   -- its output is that of its journal under its policy; an input without one is refused
   pub job : JobEnds guarded (refused_as Policy) source sink status
+  -- where the policy is refused nothing is written, whatever the source tells of its bytes
+  pub unwritten : (path : List PathPart) (fault : FaultKind) → status ≡ BadPolicy path fault →
+      Keeps sink.before.bytes sink.after.bytes
   -- whatever the input: no command goes to the plant but those that the policy allows
   pub guards : (bytes : List ℕ) → GuardTheorem bytes
 

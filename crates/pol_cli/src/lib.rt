@@ -1,8 +1,8 @@
 //! The jobs of `pol`: from words, a source and a sink to a status. The program is a thin `main` over `top`.
 //!
 //! It knows nothing of how an answer is found. `top` says how the task ended that its words mean, by a record for each
-//! task (`specs/Tasks.antt`: on status 0 the output is the defined output of the input, and what holds of such an output),
-//! and what holds of every input and of every legal history (`specs/Journal.antt`).
+//! task (`specs/Tasks.antt`: on status 0 the output is the defined output of the input, and what holds of such an
+//! output), and what holds of every input and of every legal history (`specs/Journal.antt`).
 //!
 //! Tried in `pol_examples`.
 #![tactic(auto)]

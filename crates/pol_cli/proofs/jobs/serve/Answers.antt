@@ -13,7 +13,7 @@ use Rattle.pol_cli.specs.Statuses.{no_refusal, refused_as}
 use Rattle.pol_cli.specs.Worked.{no_source}
 use Rattle.pol_cli.specs.declared.status.Wanted.TheVariants.{Policy}
 use Rattle.pol_cli.proofs.Auditing.{audit_output}
-use Rattle.pol_cli.proofs.Ending.{job_ends}
+use Rattle.pol_cli.proofs.Ending.{guard_unwritten, job_ends}
 use Rattle.pol_replay.proofs.Replaying.{replay_output}
 use Rattle.pol_cli.proofs.jobs.serve.Goals as goal
 
@@ -50,6 +50,8 @@ returns-in-Guard-clause-ends g c =
     rw (c.in-Guard.is, c.status_wanting.ensures) (record {
       job = job_ends _ guarded (refused_as Policy) _ _ c.work-in-Guard.result
           (ap (output_by guard_work) c.new-in-Guard.ensures ∙ guard_output) c.work-in-Guard.ensures.ends;
+      unwritten = guard_unwritten _ _ c.work-in-Guard.result
+          (rw c.new-in-Guard.ensures at c.work-in-Guard.ensures.refused);
       guards = c.laws_hold.ensures.guards;
     })
 

@@ -7,8 +7,7 @@ use Rattle.pol_retold.specs.Retold.{IsRetold}
 use Rattle.pol_replay.specs.BatchLines.{WritesUpTo}
 use Rattle.pol_cli.specs.SiteRuns.{entry_lines}
 use Rattle.pol_replay.proofs.BatchLines.{up_to_next, up_to_part, cut_lines}
-use Rattle.pol_keep.proofs.Orderly.{entry_orderly}
-use Rattle.pol_cli.proofs.EntryLines.{all_next}
+use Rattle.pol_cli.proofs.EntryLines.{all_next, entry_orderly}
 use Rattle.pol_cli.proofs.jobs.plant.put_each.Goals as goal
 
 pub put_entry-requires-clause-orderly : goal.put_entry-requires-clause-orderly
