@@ -15,14 +15,16 @@ ONCE_AT_LEAST, ONCE_AT_MOST = 1, 0
 # keep each one for a station that is away, until it has no place for reports.
 SUBSCRIBED = ((topics.LINK, ONCE_AT_LEAST), (topics.ANSWER, ONCE_AT_LEAST), ((SERVICE, "+"), ONCE_AT_LEAST),
               ((PARAMETER, "+", "+", "+"), ONCE_AT_MOST), ((VARIABLE, "+"), ONCE_AT_MOST))
-KEEP_ALIVE, LONGEST_PAUSE, LEAVE = 5, 5, 5
+LONGEST_PAUSE, LEAVE = 5, 5
 
 
 class Mqtt(Adapter):
-    """`name` is that of the station's session at the broker: another station there needs another one."""
+    """`name` is that of the station's session at the broker: another station there needs another one. `keep_alive` is
+    after how many seconds without a word the broker is asked for one."""
 
-    def __init__(self, turns, listener, host, port, name="station", wait=5.0):
+    def __init__(self, turns, listener, host, port, name="station", wait=5.0, keep_alive=5):
         super().__init__(turns, listener, wait)
+        self.keep_alive = keep_alive
         self.where, self.life, self.early, self.is_connected = (host, port), uuid.uuid4().hex, {}, False
         self.client = paho.Client(client_id=name, clean_session=False)
         self.client.reconnect_delay_set(1, LONGEST_PAUSE)
@@ -33,7 +35,7 @@ class Mqtt(Adapter):
         self.client.on_message = lambda *words: turns.hand(functools.partial(self.came, words[2]))
 
     def open(self):
-        self.client.connect_async(*self.where, keepalive=KEEP_ALIVE)
+        self.client.connect_async(*self.where, keepalive=self.keep_alive)
         self.client.loop_start()
 
     def close(self):

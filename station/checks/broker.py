@@ -18,7 +18,7 @@ from adapters.turns import Turns
 from checks.reading import STATION, read_file
 
 # Other work may load the machine: this long is waited for what should come at once, and this long for nothing to come.
-PATIENCE, QUIET = 60, 0.3
+PATIENCE, QUIET = 120, 0.3
 FASTER = 20
 PATH = "/usr/local/sbin:/usr/local/bin:/usr/sbin:/usr/bin:/sbin:/bin"
 QUEUE = 200
@@ -28,6 +28,7 @@ def ask_for_needs():
     """Fails with what is to be installed."""
     lacking = [package for package, is_there in (
         ("mosquitto", shutil.which("mosquitto", path=PATH)),
+        ("mosquitto-clients", shutil.which("mosquitto_pub", path=PATH)),
         ("python3-paho-mqtt", importlib.util.find_spec("paho"))) if not is_there]
     if lacking:
         raise AssertionError(f"this needs {' and '.join(lacking)} (apt-get install {' '.join(lacking)}; run it by "
@@ -141,7 +142,8 @@ class Station:
     def __init__(self, port, maps, name=None, wait=float(PATIENCE), listener=None):
         from adapters.mqtt import Mqtt
         self.told, self.turns, self.maps = [], Turns(), maps
-        self.adapter = Mqtt(self.turns, listener or self.told.append, "127.0.0.1", port, name or uuid.uuid4().hex, wait)
+        self.adapter = Mqtt(self.turns, listener or self.told.append, "127.0.0.1", port, name or uuid.uuid4().hex, wait,
+                            keep_alive=PATIENCE)
         for tag, each in maps.items():
             self.adapter.follow(tag, each)
         self.adapter.open()

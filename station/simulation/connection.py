@@ -11,7 +11,7 @@ from adapters.told import PARAMETER, SERVICE
 
 ONCE_AT_LEAST = 1
 HEARD = ((SERVICE, "+", topics.SET), (PARAMETER, "+", "+", "+", topics.SET))
-KEEP_ALIVE, LONGEST_WAIT = 5, 2
+KEEP_ALIVE, LONGEST_WAIT = 60, 2
 IS_GONE = {"there": False}
 
 

@@ -10,7 +10,7 @@ from adapters.turns import Turns
 from simulation.refused import Refused
 from simulation.simulated import Simulated
 
-STEP, ONCE_AT_LEAST, KEEP_ALIVE = 0.05, 1, 5
+STEP, ONCE_AT_LEAST, KEEP_ALIVE = 0.05, 1, 60
 ANY_TAG = "+"
 
 
