@@ -2,6 +2,7 @@
 import decimal
 
 from adapters.codes import GOOD, LEAST_GOOD, LEAST_UNCERTAIN, MODES, QUALITY, SHOWS, SOURCES, STATE_NAMES
+from package.told import short
 
 TEXT_KINDS, TRUTH_KINDS = ("StringView", "StringServParam"), ("BinView", "BinMon", "BinServParam")
 NUMBER_BOUNDS = {"Ana": (-2**63, 2**63 - 1), "DIn": (-2**31, 2**31 - 1)}
@@ -13,6 +14,11 @@ class Unfit(Exception):
     """What came of a module has no form for `pol`, or isn't good enough. Its text says why."""
 
 
+def quoted(value):
+    """A value within a sentence: in one line, and not longer than that bears."""
+    return short(str(value) if isinstance(value, decimal.Decimal) else repr(value))
+
+
 def is_whole(value, low, high):
     return isinstance(value, int) and not isinstance(value, bool) and low <= value <= high
 
@@ -21,7 +27,7 @@ def ask_quality(items):
     """Refuses what isn't of good quality. What has no quality code is good."""
     code = items.get(QUALITY, GOOD)
     if not is_whole(code, 0, LARGEST_QUALITY):
-        raise Unfit(f"its {QUALITY} is {code!r}, not 0 to {LARGEST_QUALITY}")
+        raise Unfit(f"its {QUALITY} is {quoted(code)}, not 0 to {LARGEST_QUALITY}")
     if code < LEAST_GOOD:
         raise Unfit(f"its quality is {'uncertain' if code >= LEAST_UNCERTAIN else 'bad'} ({QUALITY} {code})")
 
@@ -45,7 +51,7 @@ def report_of(items):
 def number(items, name, most):
     value = items.get(name)
     if not is_whole(value, 0, most):
-        raise Unfit(f"its {name} is {value!r}, not 0 to {most}")
+        raise Unfit(f"its {name} is {quoted(value)}, not 0 to {most}")
     return value
 
 
@@ -63,14 +69,14 @@ def value_of(entry, items, names):
         return text_of(value)
     if kind in TRUTH_KINDS:
         if not isinstance(value, bool):
-            raise Unfit(f"its value is {value!r}, which is no truth value")
+            raise Unfit(f"its value is {quoted(value)}, which is no truth value")
         return value
     return steps_of(value, entry["factor"], *NUMBER_BOUNDS[kind[:3]])
 
 
 def text_of(value):
     if not isinstance(value, str):
-        raise Unfit(f"its value is {value!r}, which is no text")
+        raise Unfit(f"its value is {quoted(value)}, which is no text")
     try:
         length = len(value.encode())
     except UnicodeEncodeError as fault:
@@ -83,11 +89,11 @@ def text_of(value):
 def steps_of(value, factor, low, high):
     """A number counted in the whole numbers of `pol`, rounded."""
     if isinstance(value, bool) or not isinstance(value, (int, float, decimal.Decimal)):
-        raise Unfit(f"its value is {value!r}, which is no number")
+        raise Unfit(f"its value is {quoted(value)}, which is no number")
     exact = decimal.Decimal(str(value))
     # Only what is near enough is multiplied: 1e999999999 would have as many digits.
     if not exact.is_finite() or not low <= exact <= high or not low <= exact * factor <= high:
-        raise Unfit(f"its value {value} is beyond what pol holds")
+        raise Unfit(f"its value {quoted(value)} is beyond what pol holds")
     return int((exact * factor).to_integral_value())
 
 

@@ -9,13 +9,14 @@ from paho.mqtt import client as paho
 from adapters import topics
 from adapters.adapter import Adapter
 from adapters.told import DONE, PARAMETER, REFUSED, SERVICE, VARIABLE
+from package.told import short
 
 ONCE_AT_LEAST, ONCE_AT_MOST = 1, 0
 # In this order, so that it is known first whether a module is there. Values are taken at most once, or the broker would
 # keep each one for a station that is away, until it has no place for reports.
 SUBSCRIBED = ((topics.LINK, ONCE_AT_LEAST), (topics.ANSWER, ONCE_AT_LEAST), ((SERVICE, "+"), ONCE_AT_LEAST),
               ((PARAMETER, "+", "+", "+"), ONCE_AT_MOST), ((VARIABLE, "+"), ONCE_AT_MOST))
-LONGEST_PAUSE, LEAVE = 5, 5
+LONGEST_PAUSE, LEAVE, MOST_REASON = 5, 5, 500
 
 
 class Mqtt(Adapter):
@@ -63,7 +64,10 @@ class Mqtt(Adapter):
 
     def send(self, number, tag, place, items):
         payload = topics.packed({"id": f"{self.life}.{number}", "items": items})
-        self.client.publish(topics.topic(tag, place, topics.SET), payload, qos=ONCE_AT_MOST)
+        sent = self.client.publish(topics.topic(tag, place, topics.SET), payload, qos=ONCE_AT_MOST)
+        if sent.rc == paho.MQTT_ERR_NO_CONN:
+            why = "the connection to the broker just broke, so nothing was sent"
+            self.turns.put(functools.partial(self.ended, number, REFUSED, why))
 
     # What comes of the broker.
 
@@ -124,8 +128,8 @@ class Mqtt(Adapter):
         """An answer to a write; of those to an earlier life of the station nothing is known any more."""
         life, _, number = str(items.get("id", "")).rpartition(".")
         if life == self.life and number.isdecimal():
-            refused = items.get("refused")
-            self.ended(int(number), DONE if refused is None else REFUSED, "" if refused is None else str(refused))
+            is_done = items.get("refused") is None
+            self.ended(int(number), DONE if is_done else REFUSED, "" if is_done else short(str(items["refused"]), MOST_REASON))
 
 
 def life_of(items):

@@ -2,6 +2,8 @@
 import decimal
 import json
 
+from package.told import short
+
 ROOT, SET, LIFE = "mtp", "set", "life"
 # Beside the places of a module: whether it is there, its answers to writes, and what a simulated one is to do wrong.
 LINK, ANSWER, FAULT = ("link",), ("answer",), ("fault",)
@@ -30,7 +32,7 @@ def unpacked(payload):
     try:
         items = json.loads(payload.decode(), parse_float=decimal.Decimal, parse_constant=no_constant)
     except (ValueError, ArithmeticError, RecursionError) as fault:
-        raise Unreadable(f"what came is no JSON: {fault}") from fault
+        raise Unreadable(f"what came is no JSON: {short(str(fault))}") from fault
     if not isinstance(items, dict):
         raise Unreadable("what came is no JSON object")
     return items

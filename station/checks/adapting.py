@@ -109,6 +109,13 @@ class Forms(unittest.TestCase):
                 forms.value_of(entry, {"V": value}, ("V",))
             self.assertIn(words, str(raised.exception))
 
+    def test_what_is_said_is_short(self):
+        for value in ("x" * 1000, int("9" * 4000), decimal.Decimal("9" * 1000), [0] * 1000):
+            for entry in (ANALOGUE, TRUTH, {"kind": "BinView"}):
+                with self.assertRaises(forms.Unfit) as raised:
+                    forms.value_of(entry, {"V": value}, ("V",))
+                self.assertLess(len(str(raised.exception)), 150)
+
     def test_settings(self):
         for factor, value, wanted in SETTINGS:
             self.assertEqual(repr(forms.of_module({"factor": factor}, value)), repr(wanted))

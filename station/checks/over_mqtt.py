@@ -6,9 +6,10 @@ import uuid
 
 from adapters.codes import COMMANDS, GOOD, STATES
 from adapters.told import DONE, REFUSED, UNANSWERED, Back, Bad, Gone, Report, Setting, Value, Written
-from checks.broker import PATIENCE, QUEUE, QUIET, Broker, Plant, Station, Tester, maps_of, wait_until
+from checks.broker import (PATIENCE, QUEUE, QUIET, Broker, Plant, Station, Tester, ask_for_needs, free_port, maps_of,
+                           wait_until)
 from checks.reading import read_module, sample_folder
-from making.modules import DOSER
+from making.modules import DOSER, TANK
 
 MODULES = {"D1": "doser.mtp", "D2": "doser.aml", "D3": "doser-3.0.mtp", "D4": "doser-draft.mtp", "M1": "mixer.mtp",
            "M2": "mixer-2.2.mtp", "T1": "tank.mtp", "H1": "hard.mtp"}
@@ -432,6 +433,16 @@ class Away(OverBroker):
 
 
 class BrokerGone(unittest.TestCase):
+    def test_what_can_not_be_sent_is_refused(self):
+        """The connection broke, and its turn to say so hasn't come."""
+        ask_for_needs()
+        station = Station(free_port(), {"T1": read_module(TANK).plug.map})
+        self.addCleanup(station.close)
+        station.until_told(Gone, "T1")
+        station.adapter.followed["T1"].is_there = True
+        outcome, why = station.outcome(station.adapter.command("T1", "fill", COMMANDS["Start"]))
+        self.assertEqual((outcome, why), (REFUSED, "the connection to the broker just broke, so nothing was sent"))
+
     def test_a_broker_that_goes_and_comes_again(self):
         with sample_folder() as folder:
             broker = Broker()

@@ -13,7 +13,7 @@ from simulation.module import Module as Simulated
 from simulation.refused import Refused
 from simulation.service import PASSING, WORK
 
-START, RESET, COMPLETE = ({"CommandExt": COMMANDS[command]} for command in ("Start", "Reset", "Complete"))
+START, COMPLETE, RESTART = ({"CommandExt": COMMANDS[command]} for command in ("Start", "Complete", "Restart"))
 AMOUNT = (PARAMETER, "dose", "1", "amount")
 KETTLE = Module("Kettle", "1.0.0", (Service("heat", (Procedure("to_temp", 1, is_default=True, parameters=(
     Parameter("temp_setting", "AnaServParam", 0, 150), Parameter("note", "StringServParam"),
@@ -91,6 +91,16 @@ class Parameters(unittest.TestCase):
         module.write(AMOUNT, {"VExt": 800})
         pass_time(module, PASSING)
         self.assertEqual(module.items(AMOUNT)["VOut"], 750)
+
+    def test_it_holds_from_a_restart_on_too(self):
+        module = simulated(KETTLE)
+        place = (PARAMETER, "heat", "1", "temp_setting")
+        module.write((SERVICE, "heat"), START)
+        pass_time(module, PASSING)
+        module.write(place, {"VExt": 100})
+        self.assertEqual(module.items(place)["VOut"], 75)
+        module.write((SERVICE, "heat"), RESTART)
+        self.assertEqual(module.items(place)["VOut"], 100)
 
     def test_one_that_another_procedure_has_is_not_applied(self):
         module = simulated(DOSER)

@@ -2,6 +2,8 @@
 import dataclasses
 import decimal
 
+from adapters.forms import quoted
+from package.told import short
 from simulation.refused import Refused
 
 MOST_SECONDS, MOST_TIMES = 3600.0, 1000
@@ -40,13 +42,13 @@ def read(items):
     items = {key: item for key, item in items.items() if key != "id"}
     fault = items.pop("fault", None)
     if not isinstance(fault, str) or fault not in WORDS:
-        raise Refused(f"{fault!r} is no fault; there are {', '.join(WORDS)}")
+        raise Refused(f"{quoted(fault)} is no fault; there are {', '.join(WORDS)}")
     texts = {name: items.pop(name, "") for name in TEXTS.get(fault, ())}
     numbers = {name: number(fault, name, items.pop(name, AT_FIRST[name]), *bounds)
                for name, bounds in WORDS[fault].items()}
     if items:
         known = ", ".join((*WORDS[fault], *texts))
-        raise Refused(f"{fault}: {', '.join(items)} isn't known; its words are {known}")
+        raise Refused(f"{fault}: {short(', '.join(items))} isn't known; its words are {known}")
     return fault, {**texts, **numbers}
 
 
@@ -54,5 +56,5 @@ def number(fault, name, value, low, high):
     """A count or a code is a whole number; seconds are any number."""
     kinds = (int,) if isinstance(low, int) else (int, float, decimal.Decimal)
     if isinstance(value, bool) or not isinstance(value, kinds) or not low <= value <= high:
-        raise Refused(f"{fault}: {name} is {value!r}, not {low:g} to {high:g}")
+        raise Refused(f"{fault}: {name} is {quoted(value)}, not {low:g} to {high:g}")
     return type(low)(value)

@@ -1,7 +1,8 @@
 """A module by its package: services, parameters and views, what is written to it, and what it shows."""
 from adapters.adapter import entry_of, places_of
 from adapters.codes import BY_HAND, BY_RECIPE, GOOD, QUALITY
-from adapters.told import PARAMETER, SERVICE, VARIABLE
+from adapters.told import PARAMETER, SERVICE
+from package.told import short
 from simulation.parameters import Parameter
 from simulation.refused import Refused
 from simulation.service import Service
@@ -67,7 +68,7 @@ class Module:
             raise Refused("nothing is to be written")
         for item, value in items.items():
             if self.entry(place) is None or item not in self.entry(place)["items"]:
-                raise Refused(f"{'/'.join(place)} has no item {item}")
+                raise Refused(f"{'/'.join(place)} has no item {short(item)}")
             self.write_one(place, item, value)
 
     def write_one(self, place, item, value):

@@ -39,9 +39,9 @@ class Parameter:
         exact = decimal.Decimal(str(value)) * self.entry["factor"]
         for is_outside, side, limit in ((exact < self.low, "below", self.low), (exact > self.high, "above", self.high)):
             if is_outside:
-                raise Refused(f"{self.name}: {value} is {side} {forms.of_module(self.entry, limit)}")
+                raise Refused(f"{self.name}: {forms.quoted(value)} is {side} {forms.of_module(self.entry, limit)}")
         if self.kind == "DIntServParam" and exact != int(exact):
-            raise Refused(f"{self.name}: {value} is no whole number")
+            raise Refused(f"{self.name}: {forms.quoted(value)} is no whole number")
 
     def apply(self):
         self.applied = self.wanted

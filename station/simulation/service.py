@@ -1,5 +1,6 @@
 """A service: its state, mode, source and procedure; what it takes, and what it does by itself as time goes on."""
 from adapters.codes import BY_HAND, BY_RECIPE, CHOOSES, COMMAND_NAMES, MODES, SHOWS, SOURCES, STATES
+from adapters.forms import quoted
 from simulation.machine import AT_REST, BY_COMMAND, BY_ITSELF, commands_from, mask
 from simulation.refused import Refused
 
@@ -56,7 +57,7 @@ class Service:
             self.ask_speaker(item, item.removeprefix("Command"))
             self.command(value)
         else:
-            raise Refused(f"{item}: {value} can't be written")
+            raise Refused(f"{item}: {quoted(value)} can't be written")
 
     def choose(self, word):
         if word in SOURCES:
@@ -69,13 +70,13 @@ class Service:
     def request(self, number):
         """Takes the procedure of the next Start; 0 is the default."""
         if type(number) is not int or number not in (0, *self.procedures):
-            raise Refused(f"the service {self.name} has no procedure {number}")
+            raise Refused(f"the service {self.name} has no procedure {quoted(number)}")
         self.requested = number
 
     def command(self, code):
         name = COMMAND_NAMES.get(code) if type(code) is int else None
         if name is None:
-            raise Refused(f"{code} is no command")
+            raise Refused(f"{quoted(code)} is no command")
         if name not in self.enabled():
             raise Refused(f"{name} isn't enabled in {self.state}")
         if name == "Start":

@@ -4,6 +4,7 @@ import functools
 import uuid
 
 from adapters import topics
+from adapters.forms import quoted
 from adapters.told import SERVICE
 from simulation import faults
 from simulation.connection import Connection
@@ -111,7 +112,7 @@ class Simulated:
         place = tuple(text.split("/")) if isinstance(text, str) else ()
         if place not in self.module.places:
             places = ", ".join("/".join(each) for each in self.module.places[:5])
-            raise Refused(f"quality: place is {text!r}; the module has {places}, ..")
+            raise Refused(f"quality: place is {quoted(text)}; the module has {places}, ..")
         self.module.quality[place] = code
         self.tell([place])
 
