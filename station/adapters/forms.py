@@ -35,7 +35,7 @@ def ask_quality(items):
 def report_of(items):
     """The fields of a report, of all items of a service control."""
     ask_quality(items)
-    state = number(items, "StateCur", 2**31)
+    state = number(items, "StateCur", LARGEST_MASK)
     if state not in STATE_NAMES:
         raise Unfit(f"its StateCur is {state}, which is no state")
     mode = chosen(items, MODES)

@@ -128,8 +128,9 @@ class Mqtt(Adapter):
         """An answer to a write; of those to an earlier life of the station nothing is known any more."""
         life, _, number = str(items.get("id", "")).rpartition(".")
         if life == self.life and number.isdecimal():
-            is_done = items.get("refused") is None
-            self.ended(int(number), DONE if is_done else REFUSED, "" if is_done else short(str(items["refused"]), MOST_REASON))
+            why = items.get("refused")
+            outcome = DONE if why is None else REFUSED
+            self.ended(int(number), outcome, short(str(why), MOST_REASON) if outcome == REFUSED else "")
 
 
 def life_of(items):

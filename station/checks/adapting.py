@@ -41,6 +41,7 @@ TRUTH, TEXT = {"kind": "BinView"}, {"kind": "StringView"}
 VALUES = [
     (ANALOGUE, 12.5, 12500), (ANALOGUE, decimal.Decimal("0.0005"), 0), (ANALOGUE, decimal.Decimal("0.0015"), 2),
     (ANALOGUE, -3, -3000), (ANALOGUE, 0.1, 100), (ANALOGUE, decimal.Decimal("9223372036854775.807"), 2**63 - 1),
+    (ANALOGUE, decimal.Decimal("-9223372036854775.808"), -2**63), (WHOLE, 2**31 - 1, 2**31 - 1),
     (ANALOGUE, decimal.Decimal("-1e-999999999"), 0), ({"kind": "AnaMon", "factor": 1000}, 1, 1000), (WHOLE, 7, 7),
     (WHOLE, decimal.Decimal("7.0"), 7), (WHOLE, -2**31, -2**31), ({"kind": "BinMon"}, True, True),
     (TRUTH, False, False), (TEXT, "x" * 254, "x" * 254), (TEXT, "", ""),
@@ -48,6 +49,7 @@ VALUES = [
 # The same of what is nothing for pol, with words of why.
 NO_VALUES = [
     (ANALOGUE, decimal.Decimal("9223372036854775.808"), "beyond what pol holds"), (ANALOGUE, float("nan"), "beyond"),
+    (ANALOGUE, decimal.Decimal("-9223372036854775.809"), "beyond"), (WHOLE, -2**31 - 1, "beyond"),
     (ANALOGUE, float("-inf"), "beyond"), (ANALOGUE, decimal.Decimal("1e999999999"), "beyond"),
     (ANALOGUE, True, "is no number"), (ANALOGUE, "5", "is no number"), (ANALOGUE, None, "is no number"),
     (WHOLE, 2**31, "beyond"), (TRUTH, 1, "is no truth value"), (TEXT, "x" * 255, "has 255 bytes"),
@@ -242,6 +244,10 @@ class Writes(unittest.TestCase):
         del made.followed["D1"].map["services"]["dose"]["items"]["CommandOp"]
         with self.assertRaisesRegex(LookupError, "service/dose of D1 has no item CommandOp in its map"):
             made.command("D1", "dose", 4, by="Op")
+        with self.assertRaisesRegex(LookupError, "^no service/stir in the map of D1$"):
+            made.command("D1", "stir", 4)
+        with self.assertRaisesRegex(LookupError, "^D2 isn't followed$"):
+            made.command("D2", "dose", 4)
         self.assertEqual((made.sent, made.pending), ([], {}))
 
 

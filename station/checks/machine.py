@@ -112,6 +112,15 @@ class ByItself(unittest.TestCase):
         for slowness, seconds, state in ((0, PASSING * 0.9, "Starting"), (5, PASSING, "Starting"), (0, 0, "Execute")):
             made.step(seconds, slowness)
             self.assertEqual(made.state, state)
+        made.command(COMMANDS["Pause"])
+        for seconds, state in ((PASSING * 0.9, "Pausing"), (PASSING * 0.2, "Paused")):
+            made.step(seconds, 0)
+            self.assertEqual(made.state, state)
+
+    def test_more_than_all_work_is_not_done(self):
+        made = service("Execute")
+        made.step(3 * WORK, 0)
+        self.assertEqual((made.state, made.share_done()), ("Execute", 1))
 
     def test_what_was_done_before_a_hold_counts_and_a_restart_begins_anew(self):
         made = service("Execute", True)
@@ -161,6 +170,13 @@ class Speakers(unittest.TestCase):
 
 
 class Procedures(unittest.TestCase):
+    def test_at_first_none_runs_and_none_is_asked_for(self):
+        made = service()
+        made.begin()
+        items = made.items()
+        self.assertEqual([items[name] for name in ("StateCur", "ProcedureCur", "ProcedureReq")], [STATES["Idle"], 0, 0])
+        self.assertEqual((made.mode, made.source), ("Automatic", "External"))
+
     def test_a_start_is_of_the_procedure_that_was_asked_for(self):
         for asked, running in ((None, 1), (0, 1), (1, 1), (7, 7)):
             made = service()

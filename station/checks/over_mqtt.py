@@ -152,6 +152,22 @@ class Simulated(OverBroker):
             self.assertIn(words, why)
         self.assertEqual(station.states("D2", "dose"), ["Idle"])
 
+    def test_a_listener_may_write_while_it_is_told(self):
+        numbers, told = [], []
+
+        def listen(thing):
+            told.append(thing)
+            if isinstance(thing, Back):
+                numbers.append(station.adapter.choose("M2", "drain", "Operator"))
+            elif isinstance(thing, Report) and thing.service == "drain" and thing.fields["Mode"] == "Operator":
+                numbers.append(station.adapter.choose("M2", "drain", "Automatic"))
+        station = self.station("M2", listener=listen)
+        station.told = told
+        station.until(lambda: len(numbers) == 2, "both are written")
+        for number in numbers:
+            station.do(number)
+        station.until(lambda: station.reports("M2", "drain")[-1]["Mode"] == "Automatic", "it is as it was")
+
     def test_an_operator_takes_a_service_and_gives_it_back(self):
         station = self.here("M1")
         station.do(station.adapter.choose("M1", "stir", "Operator"))

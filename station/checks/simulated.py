@@ -121,6 +121,16 @@ class Parameters(unittest.TestCase):
         self.assertIn("mode Operator", refusal(module, AMOUNT, {"VExt": 5}))
         self.assertIsNone(refusal(module, AMOUNT, {"VOp": 5}))
 
+    def test_at_first_each_has_the_middle_of_its_range(self):
+        rows = [("AnaServParam", 0, 5, 2.5), ("AnaServParam", 3, None, 3), ("AnaServParam", None, -2, -2),
+                ("AnaServParam", -3, None, 0), ("AnaServParam", None, None, 0), ("DIntServParam", 1, 4, 2),
+                ("DIntServParam", None, 7, 0), ("BinServParam", None, None, False), ("StringServParam", None, None, "")]
+        for kind, low, high, wanted in rows:
+            parameter = Parameter("x", kind, low, high)
+            services = (Service("s", (Procedure("p", 1, is_default=True, parameters=(parameter,)),)),)
+            items = simulated(Module("M", "1.0.0", services)).items((PARAMETER, "s", "1", "x"))
+            self.assertEqual(repr(items["VOut"]), repr(wanted), (kind, low, high))
+
     def test_each_begins_within_its_range(self):
         for made in (DOSER, HARD, KETTLE, mixer("1.0.0")):
             for parameter in simulated(made).parameters.values():
