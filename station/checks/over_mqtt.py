@@ -370,7 +370,7 @@ class Away(OverBroker):
         again = self.own()
         again.until(lambda: self.seen(again)[-1:] == [64], "the last report")
         self.assertEqual(self.seen(again), [8, 64])
-        first.adapter.close = lambda: None
+        first.adapter.close = lambda: None  # Nobody runs its turns any more.
 
     def test_what_was_laid_by_of_a_module_that_is_gone_waits_for_it(self):
         self.put("link", SAYS_GONE)

@@ -19,6 +19,17 @@ KETTLE = Module("Kettle", "1.0.0", (Service("heat", (Procedure("to_temp", 1, is_
     Parameter("temp_setting", "AnaServParam", 0, 150), Parameter("note", "StringServParam"),
     Parameter("fast", "BinServParam"), Parameter("turns", "DIntServParam", -5, 5))),)),),
     (Assembly("temp", "AnaView", scale(1001, 0, 200)), Assembly("count", "DIntView", {"VSclMin": 0, "VSclMax": 10})))
+# Views with what they show at rest, after ten seconds of work with a setting of 80, and twenty seconds after its end.
+VIEWS = [
+    ("level", "AnaView", scale(1038, 100, 200), 100, 150, 140), ("plain", "AnaView", {}, 0, 50, 40),
+    ("count", "DIntView", {"VSclMin": 0, "VSclMax": 10}, 0, 5, 4),
+    ("TI1", "AnaView", scale(1001, -50, 150), 20, 71.8799, 20.9502),
+    ("temp_oil", "AnaView", {}, 20, 71.8799, 20.9502), ("kelvin", "AnaView", scale(1000, 0, 1000), 293.15, None, None),
+    ("fahrenheit", "AnaView", scale(1002, 0, 300), 68, None, None),
+]
+OVEN = Module("Oven", "1.0.0", (Service("run", (Procedure("on", 1, is_default=True, parameters=(
+    Parameter("temp_note", "StringServParam"), Parameter("temp_setting", "AnaServParam", 0, 160),)),)),),
+    tuple(Assembly(name, kind, facts) for name, kind, facts, *_ in VIEWS))
 # What is written to a parameter, and words of why it isn't taken; none where it is.
 WRITES = [
     ("temp_setting", 60, None), ("temp_setting", decimal.Decimal("60.5"), None), ("temp_setting", 0, None),
@@ -160,6 +171,24 @@ class Writes(unittest.TestCase):
 
 
 class Moving(unittest.TestCase):
+    def test_views_move_at_their_speed(self):
+        module, moments = simulated(OVEN), []
+
+        def look():
+            moments.append({name: shown(module, name) for name, *_ in VIEWS})
+        look()
+        module.write((SERVICE, "run"), START)
+        pass_time(module, PASSING + 10)
+        look()
+        module.write((SERVICE, "run"), COMPLETE)
+        pass_time(module, 20)
+        look()
+        for name, kind, _, *wanted in VIEWS:
+            for moment, value in zip(moments, wanted):
+                if value is not None:
+                    self.assertAlmostEqual(moment[name], value, 3, name)
+                    self.assertIs(type(moment[name]), int if kind == "DIntView" else float)
+
     def test_a_level_rises_while_it_is_filled_and_stays_in_its_scale(self):
         module = simulated(TANK)
         levels = [shown(module, "level")]
@@ -197,19 +226,20 @@ class Moving(unittest.TestCase):
 
     def test_what_is_reported_goes_to_the_setting_and_stays(self):
         module = simulated(DOSER)
-        module.write(AMOUNT, {"VExt": 400})
+        module.write(AMOUNT, {"VExt": decimal.Decimal("400.25")})
         module.write((SERVICE, "dose"), START)
         pass_time(module, PASSING + WORK / 2)
         self.assertAlmostEqual(shown(module, "dose_by_weight_dosed"), 200, delta=25)
         pass_time(module, WORK)
-        self.assertEqual(shown(module, "dose_by_weight_dosed"), 400)
+        self.assertEqual(shown(module, "dose_by_weight_dosed"), 400.25)
         pass_time(module, WORK)
-        self.assertEqual(shown(module, "dose_by_weight_dosed"), 400)
+        self.assertEqual(shown(module, "dose_by_weight_dosed"), 400.25)
 
     def test_the_others_show_that_something_works(self):
         module = simulated(mixer("1.0.0"))
         views = ("full", "gear", "program")
         self.assertEqual([shown(module, name) for name in views], [False, 0, ""])
+        self.assertEqual(module.items((VARIABLE, "program")), {"Text": "", "WQC": 255})
         module.write((SERVICE, "stir"), START)
         pass_time(module, 2 * PASSING)
         self.assertEqual([shown(module, name) for name in views], [True, 2, "until_told"])
@@ -237,6 +267,8 @@ class Faults(unittest.TestCase):
     def test_what_is_left_out_has_its_first_value(self):
         self.assertEqual(faults.read({"fault": "drop", "id": "x"}), ("drop", {"count": 1}))
         self.assertEqual(faults.read({"fault": "lose"}), ("lose", {"seconds": 0.0}))
+        self.assertEqual(faults.read({"fault": "lose", "seconds": 3600}), ("lose", {"seconds": 3600.0}))
+        self.assertEqual(faults.Faults().skips(), False)
         self.assertEqual(faults.read({"fault": "quality", "place": "variable/level"}),
                          ("quality", {"place": "variable/level", "code": 0}))
         self.assertEqual(faults.read({"fault": "slow", "seconds": decimal.Decimal("2.5")}), ("slow", {"seconds": 2.5}))

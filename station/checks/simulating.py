@@ -1,6 +1,8 @@
 """station/simulate as it is called by hand, and the lines of MODULES.md as a reader copies them."""
+import dataclasses
 import importlib.machinery
 import importlib.util
+import inspect
 import os
 import pathlib
 import re
@@ -11,8 +13,11 @@ import tempfile
 import unittest
 import unittest.mock
 
+from adapters import told
+from adapters.adapter import Adapter
 from checks.broker import PATH, PATIENCE, Broker, ask_for_needs, free_port
 from checks.reading import STATION, sample_folder
+from simulation import faults
 
 SIMULATE = STATION / "simulate"
 PAGE = (STATION / "MODULES.md").read_text()
@@ -95,12 +100,37 @@ class Words(unittest.TestCase):
 def blocks():
     """The commands of the page that have something behind their arrows, each with that. One may have several lines."""
     for block in re.findall(r"(?:^    .*\n)+", PAGE, re.M):
-        command, told = [], []
+        command, behind = [], []
         for line in [*(line[4:] for line in block.splitlines()), ""]:
-            if told and not line.startswith("→ "):
-                yield "\n".join(command), told
-                command, told = [], []
-            (told if line.startswith("→ ") else command).append(line.removeprefix("→ "))
+            if behind and not line.startswith("→ "):
+                yield "\n".join(command), behind
+                command, behind = [], []
+            (behind if line.startswith("→ ") else command).append(line.removeprefix("→ "))
+
+
+def first_cells(head):
+    """The code in the first cell of each row of the page's table with this head."""
+    rows = PAGE[PAGE.index(head):].split("\n\n")[0].splitlines()[2:]
+    return [re.findall("`([^`]*)`", row.split("|")[1]) for row in rows]
+
+
+class Tables(unittest.TestCase):
+    def test_the_faults_are_those_that_are_known(self):
+        found = {fault: set(words) for fault, *words in first_cells('| `{"fault":..}` | Does |')}
+        self.assertEqual(found, {fault: {*words, *faults.TEXTS.get(fault, ())}
+                                 for fault, words in faults.WORDS.items()})
+
+    def test_the_calls_are_those_that_there_are(self):
+        for text in (text for cell in first_cells("| Call | Does |") for text in cell):
+            name, words = re.fullmatch(r"(\w+)\((.*)\)", text).groups()
+            known = inspect.signature(getattr(Adapter, name)).parameters
+            self.assertEqual(words, ", ".join(word for word in known if word not in ("self", "by")), name)
+
+    def test_what_is_told_is_all_that_there_is(self):
+        found = {cell[0] for cell in first_cells("| Told | Means |")}
+        kinds = [kind for kind in vars(told).values() if dataclasses.is_dataclass(kind)]
+        self.assertEqual(found, {f"{kind.__name__}({', '.join(each.name for each in dataclasses.fields(kind))})"
+                                 for kind in kinds})
 
 
 class Page(unittest.TestCase):
