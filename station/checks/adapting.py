@@ -259,6 +259,14 @@ class InTurn(unittest.TestCase):
         self.assertTrue(turns.until(lambda: len(seen) == 3, 60))
         self.assertEqual(seen, [(number, threading.get_ident()) for number in range(3)])
 
+    def test_what_comes_within_a_time_is_made(self):
+        turns, seen = Turns(), []
+        turns.put(lambda: seen.append("put"))
+        turns.later(0.02, lambda: seen.append("later"))
+        turns.later(60, lambda: seen.append("much later"))
+        turns.run(1)
+        self.assertEqual(seen, ["put", "later"])
+
     def test_what_is_handed_on_is_dealt_with_when_it_comes_back(self):
         turns, seen = Turns(), []
 

@@ -372,6 +372,19 @@ class Away(OverBroker):
         self.assertEqual(self.seen(again), [8, 64])
         first.adapter.close = lambda: None  # Nobody runs its turns any more.
 
+    def test_a_station_that_closes_is_gone_from_the_broker(self):
+        """Also where a report waits for its turn just then: that one is dealt with."""
+        station = self.own()
+        station.until_told(Back, self.tag)
+        self.report(16, 8)
+        station.close()
+        self.assertFalse(station.adapter.client.is_connected())
+        self.assertEqual([type(each) for each in station.told], [Back, *[Report] * len(self.seen(station)), Gone])
+        count = len(station.told)
+        self.report(64)
+        station.turns.run(QUIET)
+        self.assertEqual(len(station.told), count)
+
     def test_what_was_laid_by_of_a_module_that_is_gone_waits_for_it(self):
         self.put("link", SAYS_GONE)
         self.report(64)

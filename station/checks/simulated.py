@@ -235,6 +235,19 @@ class Moving(unittest.TestCase):
         pass_time(module, WORK)
         self.assertEqual(shown(module, "dose_by_weight_dosed"), 400.25)
 
+    def test_what_one_procedure_reports_another_leaves_alone(self):
+        module = simulated(DOSER)
+        self.assertEqual(shown(module, "dose_by_weight_dosed"), 0)
+        module.write((SERVICE, "dose"), {"ProcedureExt": 2, **START})
+        pass_time(module, PASSING + WORK)
+        self.assertEqual(shown(module, "dose_by_weight_dosed"), 0)
+
+    def test_a_temperature_without_a_setting_goes_to_the_middle_of_its_scale(self):
+        module = simulated(mixer("1.0.0"))
+        module.write((SERVICE, "stir"), START)
+        pass_time(module, 60)
+        self.assertAlmostEqual(shown(module, "temp"), 75, delta=0.1)
+
     def test_the_others_show_that_something_works(self):
         module = simulated(mixer("1.0.0"))
         views = ("full", "gear", "program")
