@@ -18,14 +18,22 @@ class Plant:
     """Runs modules, each by its tag. `up` is called with the tag of each module that the broker has now."""
 
     def __init__(self, modules, broker, faster, up):
-        self.turns, self.faster, self.now = Turns(), faster, time.monotonic()
+        self.turns, self.faster, self.now, self.has_begun = Turns(), faster, time.monotonic(), False
+        self.modules = {tag: Simulated(self.turns, tag, module, broker, faster, up) for tag, module in modules.items()}
         self.client = paho.Client(client_id=f"simulate-{uuid.uuid4().hex}")
         self.client.reconnect_delay_set(1, 1)
         self.client.on_connect = lambda client, *_: client.subscribe(topics.topic(ANY_TAG, topics.FAULT), ONCE_AT_LEAST)
+        self.client.on_subscribe = lambda *_: self.turns.put(self.begin)
         self.client.on_message = lambda *words: self.turns.put(functools.partial(self.fault, words[2]))
         self.client.connect_async(*broker, keepalive=KEEP_ALIVE)
         self.client.loop_start()
-        self.modules = {tag: Simulated(self.turns, tag, module, broker, faster, up) for tag, module in modules.items()}
+
+    def begin(self):
+        """Connects the modules, now that a fault that is asked for is heard."""
+        if not self.has_begun:
+            self.has_begun = True
+            for simulated in self.modules.values():
+                simulated.begin()
 
     def run(self, is_over):
         """Goes on until it is over."""

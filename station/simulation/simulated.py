@@ -18,14 +18,12 @@ class Simulated:
     """`faster` is how many seconds of the simulation a second has."""
 
     def __init__(self, turns, tag, module, broker, faster, up):
-        self.turns, self.tag, self.module, self.faster, self.is_up = turns, tag, module, faster, up
+        self.turns, self.tag, self.module, self.faster, self.up = turns, tag, module, faster, up
         self.faults, self.told, self.since_values, self.slow = Faults(), {}, 0.0, 0.0
-        self.kept = []
+        self.kept, self.life = [], uuid.uuid4().hex
         self.connection = Connection(turns, tag, broker, self.connected, self.heard)
-        self.begin()
 
     def begin(self):
-        self.life = uuid.uuid4().hex
         self.connection.open(self.life)
 
     def connected(self):
@@ -34,7 +32,7 @@ class Simulated:
         for place, items in kept:
             self.put(place, items)
         self.tell(self.module.places)
-        self.is_up(self.tag)
+        self.up(self.tag)
 
     def step(self, seconds):
         """Goes on for so many seconds of the simulation, and tells what changed: values before the states that come of
