@@ -1,12 +1,15 @@
 """A simulated module without a connection: its parameters, what its views show while time goes on, and what goes wrong
 when it is told to."""
 import decimal
+import random
 import unittest
 
-from adapters import forms
+from adapters import forms, topics
+from adapters.adapter import made_of
 from adapters.codes import COMMANDS
 from adapters.told import PARAMETER, SERVICE, VARIABLE
 from checks.reading import read_module
+from making.chance import Chance
 from making.modules import DOSER, HARD, TANK, Assembly, Module, Parameter, Procedure, Service, mixer, scale
 from simulation import faults
 from simulation.module import Module as Simulated
@@ -268,6 +271,30 @@ class Moving(unittest.TestCase):
                     forms.value_of(entry, module.items((VARIABLE, name)), ("V", "Text"))
                 for name in module.services:
                     forms.report_of(module.items((SERVICE, name)))
+
+
+class ByChance(unittest.TestCase):
+    def test_whatever_module_a_package_has_it_runs(self):
+        """With odd names, numbers and scales. What is told has a form, but for numbers that no REAL can hold."""
+        count = 0
+        for seed in range(30):
+            read = read_module(Chance(random.Random(seed)).module())
+            if not read.has_errors():
+                count += 1
+                self.run_all(Simulated(read.plug))
+        self.assertGreater(count, 5)
+
+    def run_all(self, module):
+        for service in module.services:
+            module.write((SERVICE, service), START)
+        for _ in range(4):
+            module.step(PASSING)
+            for place in module.places:
+                items = topics.unpacked(topics.packed(module.items(place)).encode())
+                try:
+                    made_of("T", place, module.entry(place), items)
+                except forms.Unfit as fault:
+                    self.assertIn("beyond what pol holds", str(fault))
 
 
 class Faults(unittest.TestCase):

@@ -12,7 +12,7 @@ class Parameter:
     numbers of `pol`, and so is what is wanted and what is applied."""
 
     def __init__(self, description, entry):
-        self.entry, self.name, self.kind = entry, entry["name"], description["kind"]
+        self.entry, self.name, self.kind = entry, description["name"], description["kind"]
         self.low, self.high = description.get("min"), description.get("max")
         self.wanted = self.applied = self.at_first()
 
