@@ -59,17 +59,22 @@ def free_port():
 
 
 class Broker:
-    """A mosquitto on a port of its own. It keeps at most QUEUE messages for who is away, and nothing when it ends."""
+    """A mosquitto on a port of its own. It keeps at most QUEUE messages for who is away; when it ends, only one whose
+    messages are `kept` on its disk."""
 
-    def __init__(self):
+    def __init__(self, kept=False):
         ask_for_needs()
+        self.kept = kept
         self.folder = tempfile.TemporaryDirectory(prefix="station-")
         self.port = free_port()
         self.start()
 
     def start(self):
         configuration = pathlib.Path(self.folder.name) / "mosquitto.conf"
-        configuration.write_text(f"listener {self.port} 127.0.0.1\nallow_anonymous true\nmax_queued_messages {QUEUE}\n")
+        lines = [f"listener {self.port} 127.0.0.1", "allow_anonymous true", f"max_queued_messages {QUEUE}"]
+        if self.kept:
+            lines += ["persistence true", f"persistence_location {self.folder.name}/", "user root"]
+        configuration.write_text("\n".join(lines) + "\n")
         self.process = subprocess.Popen([shutil.which("mosquitto", path=PATH), "-c", configuration],
                                         stdin=subprocess.DEVNULL, stdout=subprocess.DEVNULL, stderr=subprocess.DEVNULL)
         wait_until(lambda: is_listening(self.port) or self.process.poll() is not None, "mosquitto listens")
@@ -77,8 +82,9 @@ class Broker:
             raise AssertionError(f"mosquitto ended with status {self.process.returncode}")
 
     def stop(self):
-        self.process.kill()
-        self.process.wait()
+        """Ends it at once; one that keeps its messages writes them first."""
+        self.process.send_signal(signal.SIGTERM if self.kept else signal.SIGKILL)
+        self.process.wait(PATIENCE)
 
     def close(self):
         self.stop()

@@ -472,6 +472,28 @@ class BrokerGone(unittest.TestCase):
         outcome, why = station.outcome(station.adapter.command("T1", "fill", COMMANDS["Start"]))
         self.assertEqual((outcome, why), (REFUSED, "the connection to the broker just broke, so nothing was sent"))
 
+    def test_a_broker_that_has_its_messages_on_its_disk(self):
+        broker = Broker(kept=True)
+        self.addCleanup(broker.close)
+        maps = {"D1": read_module(DOSER).plug.map}
+
+        def put(*tellings):
+            tester = Tester(broker.port)
+            for place, items in tellings:
+                tester.put(f"mtp/D1/{place}", items)
+            tester.close()
+        put(("link", SAYS_HERE))
+        first = Station(broker.port, maps, name="station")
+        first.until_told(Back, "D1")
+        first.close()
+        put(*(("service/dose", CONTROL | {"StateCur": state, "life": "one"}) for state in (16, 8, 64)))
+        broker.stop()
+        broker.start()
+        again = Station(broker.port, maps, name="station")
+        self.addCleanup(again.close)
+        again.until_state("D1", "dose", "Execute")
+        self.assertEqual(again.states("D1", "dose"), ["Idle", "Starting", "Execute"])
+
     def test_a_broker_that_goes_and_comes_again(self):
         with sample_folder() as folder:
             broker = Broker()
