@@ -16,14 +16,14 @@ ONCE_AT_LEAST, ONCE_AT_MOST = 1, 0
 # keep each one for a station that is away, until it has no place for reports.
 SUBSCRIBED = ((topics.LINK, ONCE_AT_LEAST), (topics.ANSWER, ONCE_AT_LEAST), ((SERVICE, "+"), ONCE_AT_LEAST),
               ((PARAMETER, "+", "+", "+"), ONCE_AT_MOST), ((VARIABLE, "+"), ONCE_AT_MOST))
-LONGEST_PAUSE, LEAVE, MOST_REASON = 5, 5, 500
+LONGEST_PAUSE, LEAVE, MOST_REASON = 5, 30, 500
 
 
 class Mqtt(Adapter):
     """`name` is that of the station's session at the broker: another station there needs another one. `keep_alive` is
     after how many seconds without a word the broker is asked for one."""
 
-    def __init__(self, turns, listener, host, port, name="station", wait=5.0, keep_alive=5):
+    def __init__(self, turns, listener, host, port, name="station", wait=5.0, keep_alive=10):
         super().__init__(turns, listener, wait)
         self.keep_alive = keep_alive
         self.where, self.life, self.early, self.is_connected = (host, port), uuid.uuid4().hex, {}, False
