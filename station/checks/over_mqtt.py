@@ -230,6 +230,16 @@ class Simulated(OverBroker):
         self.assertEqual([each for each in away if not isinstance(each, Written)], [gone])
         self.command(station, "D3", "dose", "Reset", "Idle")
 
+    def test_a_connection_that_is_lost_twice_comes_back_once(self):
+        station = self.here("T1")
+        since = len(station.told)
+        self.fault("T1", "lose", seconds=20)
+        self.fault("T1", "lose", seconds=1)
+        station.until_told(Back, "T1", since=since)
+        station.turns.run(1 + QUIET)
+        kinds = [type(each) for each in station.told[since:] if isinstance(each, (Gone, Back))]
+        self.assertEqual(kinds, [Gone, Back])
+
     def test_a_module_that_is_restarted_is_idle_in_another_life(self):
         station = self.here("M2")
         life = station.until_told(Back, "M2").life

@@ -3,6 +3,7 @@ it."""
 import contextlib
 import functools
 import socket
+import threading
 
 from paho.mqtt import client as paho
 
@@ -78,6 +79,15 @@ class Connection:
         """Says that the module goes, and takes leave."""
         if self.client:
             self.tell(topics.LINK, IS_GONE)
-            self.client.disconnect()
-            self.client.loop_stop()
+            leave(self.client)
             self.client = None
+
+
+def leave(client):
+    """Takes leave of the broker, and waits a little until it has it."""
+    has_left = threading.Event()
+    client.on_disconnect = lambda *_: has_left.set()
+    is_connected = client.is_connected()
+    client.disconnect()
+    if is_connected:
+        has_left.wait(LONGEST_WAIT)

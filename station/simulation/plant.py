@@ -7,6 +7,7 @@ from paho.mqtt import client as paho
 
 from adapters import topics
 from adapters.turns import Turns
+from simulation.connection import leave
 from simulation.refused import Refused
 from simulation.simulated import Simulated
 
@@ -64,5 +65,4 @@ class Plant:
     def close(self):
         for simulated in self.modules.values():
             simulated.close()
-        self.client.disconnect()
-        self.client.loop_stop()
+        leave(self.client)
