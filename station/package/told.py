@@ -14,9 +14,9 @@ def plain(text):
     return "".join(letter if letter.isprintable() else repr(letter)[1:-1] for letter in text)
 
 
-def short(text):
-    """A text of a package that isn't longer than a line bears."""
-    return text if len(text) <= MOST_SHOWN else text[:MOST_SHOWN - 2] + ".."
+def short(text, most=MOST_SHOWN):
+    """A text of a package or a module that isn't longer than a line bears."""
+    return text if len(text) <= most else text[:most - 2] + ".."
 
 
 def shown(text):
