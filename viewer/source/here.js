@@ -3,7 +3,7 @@
 "use strict";
 const here = (() => {
   const { make } = tables;
-  const isRefused = answer => Boolean(answer) && ("refused" in answer || "bad" in answer);
+  const isRefused = answer => Boolean(answer) && ["refused", "bad", "denied"].some(key => key in answer);
   const note = (key, text) => (text ? make("p", { class: "note" }, make("b", {}, `${words.say(key)}: `), text) : null);
   // The docs' words behind an answer.
   function behind(event, answer) {
@@ -14,6 +14,9 @@ const here = (() => {
         : [make("p", { class: "note" }, words.say("noWords"))];
     }
     if ("bad" in answer) return [make("p", { class: "note" }, words.say("badLine"))];
+    if ("denied" in answer) {
+      return [make("p", { class: "note" }, words.say(answer.policy === undefined ? "deniedByNoneMore" : "deniedMore"))];
+    }
     if ("wait" in answer) {
       const wait = words.wait(answer.wait, answer), forbid = answer.by ? words.word("forbids", answer.by) : null;
       return [note("waitsFor", wait?.for), note("lookAt", wait?.look),
@@ -43,7 +46,8 @@ const here = (() => {
   }
   function entry(holder, found, history, view) {
     const at = view.cursor, [event, answer] = found.entry(at), stamp = event?.at;
-    const place = [words.say("entryOf", words.number(at + 1), words.number(view.count)),
+    const key = history.entries === view.count ? "entryOf" : "answerOf";
+    const place = [words.say(key, words.number(at + 1), words.number(view.count)),
       words.say("atLine", words.number(found.line(at)))];
     if (stamp !== undefined) place.push(words.stamp(stamp));
     const kindOf = (tag, name) => history.kindAt(tag, name, at);

@@ -7,10 +7,12 @@ const labels = {
   open: ["Open files", "Dateien öffnen"],
   print: ["Print", "Drucken"],
   drop: ["Drop here what pol wrote", "Hier ablegen, was pol schrieb"],
-  dropMore: ["The output of the job plant, or a journal together with the output of its replay. The verdict of the "
-    + "job audit and the site may come along. The files stay on this machine.",
-    "Die Ausgabe von plant, oder ein Journal mit der Ausgabe seiner Wiedergabe (replay). Das Urteil von audit "
-    + "und die Anlage dürfen dabei sein. Die Dateien bleiben auf diesem Rechner."],
+  dropMore: ["The output of the job plant, or a journal together with the output of its replay or of the job guard. "
+    + "What the job find says, the verdict of the job audit and the site may come along. A pol.journal is read too. "
+    + "The files stay on this machine.",
+    "Die Ausgabe von plant, oder ein Journal mit der Ausgabe seiner Wiedergabe (replay) oder von guard. Was find sagt, "
+    + "das Urteil von audit und die Anlage dürfen dabei sein. Auch ein pol.journal wird gelesen. Die Dateien bleiben "
+    + "auf diesem Rechner."],
   notProved: ["This page is no part of what is proved. It draws what the files say and checks nothing.",
     "Diese Seite ist kein Teil dessen, was bewiesen ist. Sie zeichnet, was die Dateien sagen, und prüft nichts."],
   batches: ["Batches", "Chargen"], modules: ["Modules", "Module"], cursor: ["At the cursor", "Am Cursor"],
@@ -44,10 +46,12 @@ const labels = {
   nBatches: ["{0} batches", "{0} Chargen"], n1Batches: ["1 batch", "1 Charge"],
   nModules: ["{0} modules", "{0} Module"], n1Modules: ["1 module", "1 Modul"],
   nRefused: ["{0} refused", "{0} abgelehnt"], n1Refused: ["1 refused", "1 abgelehnt"],
+  nDenied: ["{0} denied", "{0} verweigert"], n1Denied: ["1 denied", "1 verweigert"],
   nBad: ["{0} lines at fault", "{0} fehlerhafte Zeilen"], n1Bad: ["1 line at fault", "1 fehlerhafte Zeile"],
   nTurns: ["{0} turns", "{0} Umläufe"], n1Turns: ["1 turn", "1 Umlauf"],
   nTimes: ["{0} times", "{0}-mal"], n1Times: ["once", "einmal"], nStamps: ["{0} stamps", "{0} Stempel"],
-  entryOf: ["entry {0} of {1}", "Eintrag {0} von {1}"], atLine: ["line {0}", "Zeile {0}"],
+  entryOf: ["entry {0} of {1}", "Eintrag {0} von {1}"],
+  answerOf: ["answered line {0} of {1}", "beantwortete Zeile {0} von {1}"], atLine: ["line {0}", "Zeile {0}"],
   more: ["{0} more", "{0} weitere"],
   // States of things.
   running: ["Running", "Running"], neverStarted: ["never started", "nie gestartet"], unknown: ["unknown", "unbekannt"],
@@ -69,6 +73,8 @@ const labels = {
   starred: ["for another's sake", "wegen anderer"],
   badLine: ["The line is no event; it isn't in the history. Mend what is told at the path.",
     "Die Zeile ist kein Ereignis und steht nicht in der Historie. Zu berichtigen ist, was am Pfad genannt ist."],
+  noJournal: ["That stands in the journal, which isn't among the files.",
+    "Das steht im Journal, und das ist nicht unter den Dateien."],
   noWords: ["this rule isn't in the page's docs", "diese Regel steht nicht in den Texten der Seite"],
   nowIs: ["now {0}", "jetzt {0}"], moduleNow: ["{0} is {1}", "{0} ist {1}"], heldBy: ["held by {0}", "belegt von {0}"],
   watchedBy: ["watched by {0}", "beobachtet von {0}"], free: ["free", "frei"],
@@ -82,12 +88,21 @@ const labels = {
   closedAs: ["closed as {0}", "geschlossen als {0}"],
   openBatch: ["batch {0} is still running at the end", "Charge {0} läuft am Ende noch"],
   neverBatch: ["batch {0} never started", "Charge {0} wurde nie gestartet"],
-  deskPermitted: ["an operator asked {1} of {2} for {0}: permitted",
-    "Bediener verlangte {0} von {1} an {2}: erlaubt"],
-  deskRefused: ["an operator asked {1} of {2} for {0}: refused, {3}",
-    "Bediener verlangte {0} von {1} an {2}: abgelehnt, {3}"],
-  deskUnknown: ["an operator asked {1} of {2} for {0}; no answer is known",
-    "Bediener verlangte {0} von {1} an {2}; keine Antwort ist bekannt"],
+  anOperator: ["an operator", "Bediener"],
+  deskPermitted: ["{4:who} asked {1} of {2} for {0}: permitted",
+    "{4:who} verlangte {0} von {1} an {2}: erlaubt"],
+  deskRefused: ["{4:who} asked {1} of {2} for {0}: refused, {3}",
+    "{4:who} verlangte {0} von {1} an {2}: abgelehnt, {3}"],
+  deskDenied: ["{4:who} asked {1} of {2} for {0}: denied by the policy's rule {3}",
+    "{4:who} verlangte {0} von {1} an {2}: verweigert von der Regel {3} der Richtlinie"],
+  deskDeniedByNone: ["{4:who} asked {1} of {2} for {0}: denied, no rule of the policy allows it",
+    "{4:who} verlangte {0} von {1} an {2}: verweigert, keine Regel der Richtlinie erlaubt es"],
+  deskBad: ["{4:who} asked {1} of {2} for {0}, in a line at fault",
+    "{4:who} verlangte {0} von {1} an {2}, in einer fehlerhaften Zeile"],
+  deskOdd: ["{4:who} asked {1} of {2} for {0}; the answer says neither permitted nor refused",
+    "{4:who} verlangte {0} von {1} an {2}; die Antwort sagt weder erlaubt noch abgelehnt"],
+  deskUnknown: ["{4:who} asked {1} of {2} for {0}; no answer is known",
+    "{4:who} verlangte {0} von {1} an {2}; keine Antwort ist bekannt"],
   exchangedIn: ["{0} was exchanged while batch {1} had it", "{0} wurde getauscht, während Charge {1} es hatte"],
   exchangedWatched: ["{0} was exchanged while batch {1} watched it",
     "{0} wurde getauscht, während Charge {1} es beobachtete"],
@@ -104,18 +119,31 @@ const labels = {
     "zwischen den Einträgen {0} und {1} fehlen Stempel: {2}, {3}"],
   stampsPause: ["far longer than usual nothing stands between entries {0} and {1}: {2}, {3}",
     "zwischen den Einträgen {0} und {1} steht weit länger als sonst nichts: {2}, {3}"],
-  auditHere: ["the audit stops here, {0}: the answer should be {1}", "das Audit endet hier, {0}: richtig wäre {1}"],
+  auditHere: ["the audit stops here, {0}: the answer should be {1:answer}",
+    "das Audit endet hier, {0}: richtig wäre {1:answer}"],
   // Audit.
   notAudited: ["not audited", "nicht geprüft"], auditGood: ["audit: good", "Audit: gut"],
   auditBad: ["audit: wrong", "Audit: falsch"],
-  sealMore: ["as the verdict line says; this page checks nothing", "laut der Urteilszeile; diese Seite prüft nichts"],
+  sealMore: ["as the verdict line says, which names no file; this page checks nothing",
+    "laut der Urteilszeile, die keine Datei nennt; diese Seite prüft nichts"],
+  namesNoFile: ["The verdict names no file: whoever signs has to know that it is of this one.",
+    "Das Urteil nennt keine Datei: wer unterschreibt, muss wissen, dass es dieser gilt."],
   sealMissing: ["no verdict of the job audit stands in the files", "in den Dateien steht kein Urteil von audit"],
   goodWords: ["The job audit found {0} entries true: each answer is the one that looking back in the history gives, "
     + "and the batch lines follow.",
     "audit fand {0} Einträge wahr: jede Antwort ist die, die der Blick zurück in die Historie ergibt, und "
     + "die Zeilen der Chargen folgen."],
-  otherLength: ["The verdict is of {0} entries, the file has {1}.",
-    "Das Urteil gilt für {0} Einträge, die Datei hat {1}."],
+  otherLength: ["A verdict of {0} entries came along; here are {1}. It is of another file, and isn't shown.",
+    "Ein Urteil über {0} Einträge ist dabei; hier sind {1}. Es gilt einer anderen Datei und wird nicht gezeigt."],
+  otherPlace: ["A verdict came along that finds entry {0} wrong; here are {1}. It is of another file, and isn't shown.",
+    "Ein Urteil ist dabei, nach dem Eintrag {0} falsch ist; hier sind {1}. Es gilt einer anderen Datei und wird nicht "
+    + "gezeigt."],
+  otherAnswer: ["A verdict came along that finds the answer of entry {0} wrong; here that answer is what it should be. "
+    + "It is of another file, and isn't shown.",
+    "Ein Urteil ist dabei, nach dem die Antwort von Eintrag {0} falsch ist; hier ist sie die richtige. Es gilt einer "
+    + "anderen Datei und wird nicht gezeigt."],
+  otherVerdict: ["A verdict came along that isn't of the form that pol writes; it isn't shown.",
+    "Ein Urteil ist dabei, das nicht von der Form ist, die pol schreibt; es wird nicht gezeigt."],
   whyAnswer: ["the answer isn't the one that the entries before it give",
     "die Antwort ist nicht die, die die Einträge davor ergeben"],
   whyTooMany: ["there are more entries than an audit takes", "es sind mehr Einträge, als ein Audit annimmt"],
@@ -131,6 +159,26 @@ const labels = {
   noEnd: ["the end line is missing: the output is cut", "die Endzeile fehlt: die Ausgabe ist abgeschnitten"],
   nothing: ["no line that pol writes stands in the files", "keine Zeile, die pol schreibt, steht in den Dateien"],
   faultLine: ["{0}, line {1}: {2}", "{0}, Zeile {1}: {2}"], notJson: ["no JSON", "kein JSON"],
+  noEvents: ["The files hold answers without their events: what was refused is listed. Put the journal along to see "
+    + "modules and batches.",
+    "Die Dateien enthalten Antworten ohne ihre Ereignisse: was abgelehnt wurde, ist aufgeführt. Mit dem Journal dabei "
+    + "sind auch Module und Chargen zu sehen."],
+  kept: ["{0} is the file of a kept plant, with {1} events. The job export makes a journal of it, and a replay of that "
+    + "the answers.",
+    "{0} ist die Datei einer aufbewahrten Anlage, mit {1} Ereignissen. export macht daraus ein Journal, und dessen "
+    + "Wiedergabe (replay) die Antworten."],
+  keptEmpty: ["{0} is the file of a kept plant, without events.",
+    "{0} ist die Datei einer aufbewahrten Anlage, ohne Ereignisse."],
+  keptBroken: ["{0}: behind event {1}, from byte {2} on, it isn't a file that the job keep writes.",
+    "{0}: hinter Ereignis {1}, ab Byte {2}, ist es keine Datei, die keep schreibt."],
+  summary: ["the counts of a demo journal; there is nothing in it to draw",
+    "die Zählung eines demo-Journals; darin ist nichts zu zeichnen"],
+  oddAnswers: ["{0} answers can't be of their events, the first at {1}: the files don't belong together, or one was "
+    + "changed",
+    "{0} Antworten können nicht zu ihren Ereignissen gehören, die erste bei {1}: die Dateien gehören nicht zusammen, "
+    + "oder eine wurde geändert"],
+  manyEnds: ["{0} end lines: the files hold several outputs, which are drawn one behind another",
+    "{0} Endzeilen: die Dateien enthalten mehrere Ausgaben, die hintereinander gezeichnet sind"],
   unlike: ["not of the form that pol writes", "nicht von der Form, die pol schreibt"],
   unknownForm: ["no form of line that pol writes", "keine Zeilenform von pol"],
   noAnswer: ["no answer in the files", "keine Antwort in den Dateien"],
@@ -150,6 +198,31 @@ const labels = {
   // What stands still.
   still: ["What waits or stands still at the end", "Was am Ende wartet oder stillsteht"],
   lastDid: ["last: {0}", "zuletzt: {0}"], started: ["started", "gestartet"],
+  // What a policy denied.
+  denied: ["denied", "verweigert"], policy: ["policy", "Richtlinie"],
+  deniedBy: ["denied by the policy's rule {0}", "verweigert von der Regel {0} der Richtlinie"],
+  deniedByNone: ["denied: no rule of the policy allows it", "verweigert: keine Regel der Richtlinie erlaubt es"],
+  deniedMore: ["This rule of the policy denies it, so the plant never saw the command and it isn't in the history. "
+    + "Who may give it, the policy says.",
+    "Diese Regel der Richtlinie verweigert es; die Anlage sah den Befehl nie, und er steht nicht in der Historie. Wer "
+    + "ihn geben darf, sagt die Richtlinie."],
+  deniedByNoneMore: ["No rule of the policy allows it, so the plant never saw the command and it isn't in the "
+    + "history. Who may give it, the policy says.",
+    "Keine Regel der Richtlinie erlaubt es; die Anlage sah den Befehl nie, und er steht nicht in der Historie. Wer ihn "
+    + "geben darf, sagt die Richtlinie."],
+  askedFor: ["asked by {0}", "verlangt von {0}"], who: ["Who", "Wer"],
+  // What the job find says.
+  finder: ["Which modules are left for a recipe", "Welche Module für ein Rezept übrig sind"],
+  bindable: ["A new batch could have", "Eine neue Charge könnte haben"],
+  shortOnly: ["too few modules for {0}: only {1} left", "zu wenige Module für {0}: nur noch {1}"],
+  shortNone: ["too few modules for {0}: none left", "zu wenige Module für {0}: keines mehr"],
+  finderNone: ["No recipe was known.", "Kein Rezept war bekannt."],
+  finderBad: ["Lines of its journal that were at fault: {0}", "Fehlerhafte Zeilen ihres Journals: {0}"],
+  finderCut: ["its end line is missing: the output is cut", "die Endzeile fehlt: die Ausgabe ist abgeschnitten"],
+  finderMore: ["As the job find says, of the end of the journal that it read; this page checks nothing. A role of "
+    + "which only values are read may be watched instead of bound.",
+    "Laut find, am Ende des Journals, das es las; diese Seite prüft nichts. Eine Rolle, von der nur Werte gelesen "
+    + "werden, darf auch beobachtet statt belegt werden."],
   since: ["since entry {0}{1}", "seit Eintrag {0}{1}"],
   askAgain: ["asked last at entry {0}, {1} since: ask again",
     "zuletzt gefragt bei Eintrag {0}, seither {1}: neu fragen"],
@@ -180,6 +253,7 @@ const labels = {
   report: ["{tag} reports {service}: {StateCur:state}{mode}", "{tag} meldet {service}: {StateCur:state}{mode}"],
   variable: ["{tag} reports {name} = {value}", "{tag} meldet {name} = {value}"],
   recipeEvent: ["recipe {recipe} is made known", "Rezept {recipe} wird bekannt"],
+  signAll: ["In the files: {0}", "In den Dateien: {0}"],
   startEvent: ["batch {batch} of recipe {recipe} is to start on {bind:bind}{watch:watch}",
     "Charge {batch} von Rezept {recipe} soll starten auf {bind:bind}{watch:watch}"],
   watches: [", watching {0}", ", beobachtet {0}"],
@@ -190,8 +264,8 @@ const labels = {
   thaw: ["batch {batch} is to go on", "Charge {batch} soll weiterlaufen"],
   stop: ["batch {batch} is to stop", "Charge {batch} soll stoppen"],
   abandon: ["batch {batch} is to be abandoned", "Charge {batch} soll aufgegeben werden"],
-  desk: ["an operator asks {service} of {tag} for {CommandOp:command}",
-    "Bediener verlangt {CommandOp:command} von {service} an {tag}"],
+  desk: ["{by:who} asks {service} of {tag} for {CommandOp:command}",
+    "{by:who} verlangt {CommandOp:command} von {service} an {tag}"],
   exchange_begin: ["{tag} is to be exchanged", "{tag} soll getauscht werden"],
   exchange_end: ["{tag} is back under ticket {ticket}: {desc.type} {desc.version}",
     "{tag} ist zurück unter Ticket {ticket}: {desc.type} {desc.version}"],
@@ -212,6 +286,7 @@ const labels = {
     "Hold wird verlangt: {service} von {tag} (Schritt {step})"],
   didUnhold: ["Unhold is asked for: {service} of {tag} (step {step})",
     "Unhold wird verlangt: {service} von {tag} (Schritt {step})"],
+  eventMissing: ["its line isn't among the files", "die Zeile dazu ist nicht unter den Dateien"],
   didChose: ["arm {arm} of node {node} is chosen, by {values:values}",
     "Zweig {arm} von Knoten {node} ist gewählt, wegen {values:values}"],
   didTurn: ["loop {node} turns once more, by {values:values}",
