@@ -61,7 +61,7 @@ def seal_of(checks):
 
 def sets(checks):
     """The files of each example: a history, or a journal and its output."""
-    names = ('broken', 'hostile', 'watched', 'holding', 'left', 'still')
+    names = ('broken', 'hostile', 'watched', 'holding', 'left', 'still', 'branches')
     pair = {name: [checks.data(name), checks.data(name + '.answers')] for name in names}
     example = {name: [checks.example(name + '.jsonl'), checks.data(name + '.answers')] for name in ('blend', 'policy')}
     return {'site': [checks.data('site')], **example, **pair}

@@ -61,6 +61,9 @@ const labels = {
   asked: ["asked by an operator", "vom Bediener verlangt"],
   operator: ["not for recipes (mode)", "nicht für Rezepte (Modus)"],
   logged: ["entry of the log", "Eintrag des Protokolls"],
+  // A batch's bars and its chart have these colours from the command on, before the service reports.
+  holding: ["Holding, Held, or asked to hold", "Holding, Held, oder soll halten"],
+  stopping: ["Stopping, Stopped, or asked to stop", "Stopping, Stopped, oder soll stoppen"],
   leftRunning: ["left running: go and look", "laufend verlassen: nachsehen"],
   leftIn: ["! {0} of {1} left in {2}", "! {0} von {1} in {2} verlassen"],
   node: ["arm or loop decided", "Zweig oder Schleife entschieden"],
@@ -70,11 +73,11 @@ const labels = {
   noRefusal: ["Nothing was refused.", "Nichts wurde abgelehnt."], noWait: ["It never waited.", "Sie wartete nie."],
   noMatch: ["Nothing fits what is chosen.", "Nichts passt zur Auswahl."],
   noRecipe: ["No recipe is known.", "Kein Rezept ist bekannt."],
+  noJournal: ["That stands in the journal, which isn't among the files.",
+    "Das steht im Journal, und das ist nicht unter den Dateien."],
   starred: ["for another's sake", "wegen anderer"],
   badLine: ["The line is no event; it isn't in the history. Mend what is told at the path.",
     "Die Zeile ist kein Ereignis und steht nicht in der Historie. Zu berichtigen ist, was am Pfad genannt ist."],
-  noJournal: ["That stands in the journal, which isn't among the files.",
-    "Das steht im Journal, und das ist nicht unter den Dateien."],
   noWords: ["this rule isn't in the page's docs", "diese Regel steht nicht in den Texten der Seite"],
   nowIs: ["now {0}", "jetzt {0}"], moduleNow: ["{0} is {1}", "{0} ist {1}"], heldBy: ["held by {0}", "belegt von {0}"],
   watchedBy: ["watched by {0}", "beobachtet von {0}"], free: ["free", "frei"],
@@ -156,9 +159,6 @@ const labels = {
     + "their replay along to see what pol answered.",
     "Die Dateien enthalten Ereignisse ohne Antworten. Sie sind gezeichnet, als wäre jedes angenommen worden; die "
     + "Ausgabe ihrer Wiedergabe zeigt, was pol antwortete."],
-  noEnd: ["the end line is missing: the output is cut", "die Endzeile fehlt: die Ausgabe ist abgeschnitten"],
-  nothing: ["no line that pol writes stands in the files", "keine Zeile, die pol schreibt, steht in den Dateien"],
-  faultLine: ["{0}, line {1}: {2}", "{0}, Zeile {1}: {2}"], notJson: ["no JSON", "kein JSON"],
   noEvents: ["The files hold answers without their events: what was refused is listed. Put the journal along to see "
     + "modules and batches.",
     "Die Dateien enthalten Antworten ohne ihre Ereignisse: was abgelehnt wurde, ist aufgeführt. Mit dem Journal dabei "
@@ -179,6 +179,9 @@ const labels = {
     + "oder eine wurde geändert"],
   manyEnds: ["{0} end lines: the files hold several outputs, which are drawn one behind another",
     "{0} Endzeilen: die Dateien enthalten mehrere Ausgaben, die hintereinander gezeichnet sind"],
+  noEnd: ["the end line is missing: the output is cut", "die Endzeile fehlt: die Ausgabe ist abgeschnitten"],
+  nothing: ["no line that pol writes stands in the files", "keine Zeile, die pol schreibt, steht in den Dateien"],
+  faultLine: ["{0}, line {1}: {2}", "{0}, Zeile {1}: {2}"], notJson: ["no JSON", "kein JSON"],
   unlike: ["not of the form that pol writes", "nicht von der Form, die pol schreibt"],
   unknownForm: ["no form of line that pol writes", "keine Zeilenform von pol"],
   noAnswer: ["no answer in the files", "keine Antwort in den Dateien"],
@@ -195,9 +198,6 @@ const labels = {
   atEndMissing: ["At the end no module is plugged as {0}.", "Am Ende ist kein Modul als {0} gesteckt."],
   atEndNotIdle: ["At the end {0} of {1} is in {2}.", "Am Ende ist {0} von {1} in {2}."],
   atEndSilent: ["At the end {0} of {1} is unreported.", "Am Ende ist {0} von {1} ungemeldet."],
-  // What stands still.
-  still: ["What waits or stands still at the end", "Was am Ende wartet oder stillsteht"],
-  lastDid: ["last: {0}", "zuletzt: {0}"], started: ["started", "gestartet"],
   // What a policy denied.
   denied: ["denied", "verweigert"], policy: ["policy", "Richtlinie"],
   deniedBy: ["denied by the policy's rule {0}", "verweigert von der Regel {0} der Richtlinie"],
@@ -223,12 +223,26 @@ const labels = {
     + "which only values are read may be watched instead of bound.",
     "Laut find, am Ende des Journals, das es las; diese Seite prüft nichts. Eine Rolle, von der nur Werte gelesen "
     + "werden, darf auch beobachtet statt belegt werden."],
+  // What stands still.
+  still: ["What waits or stands still at the end", "Was am Ende wartet oder stillsteht"],
+  lastDid: ["last: {0}", "zuletzt: {0}"], started: ["started", "gestartet"],
   since: ["since entry {0}{1}", "seit Eintrag {0}{1}"],
   askAgain: ["asked last at entry {0}, {1} since: ask again",
     "zuletzt gefragt bei Eintrag {0}, seither {1}: neu fragen"],
   askOn: ["asked last at entry {0}: ask again", "zuletzt gefragt bei Eintrag {0}: neu fragen"],
   askFirst: ["not asked since its start: ask", "seit dem Start nicht gefragt: fragen"],
   nReports: ["{0} reports", "{0} Meldungen"], n1Reports: ["1 report", "1 Meldung"],
+  // Each branch that isn't through: what the chart has there, and what was reported last.
+  lastReported: ["{0} of {1} was reported last in {2}", "{0} von {1} wurde zuletzt in {2} gemeldet"],
+  notReported: ["{0} of {1} wasn't reported since it was docked", "{0} von {1} wurde seit dem Andocken nicht gemeldet"],
+  isAway: ["{0} is in exchange", "{0} ist im Tausch"],
+  chartHas: ["in the chart: {0}", "im Plan: {0}"],
+  lastValue: ["{0} was reported last as {1}", "{0} wurde zuletzt mit {1} gemeldet"],
+  noValue: ["{0} wasn't reported since it was docked", "{0} wurde seit dem Andocken nicht gemeldet"],
+  notEnabled: ["that report doesn't enable {0}", "diese Meldung gibt {0} nicht frei"],
+  armOpen: ["no arm of node {0} is chosen yet", "noch kein Zweig von Knoten {0} ist gewählt"],
+  loopOpen: ["all in loop {0} is through: it turns or is left",
+    "alles in Schleife {0} ist zu Ende: sie läuft noch einmal oder wird verlassen"],
   // The page to sign.
   signTitle: ["Record of what happened", "Protokoll des Geschehens"],
   signWhat: ["Files", "Dateien"], signSpan: ["First and last stamp", "Erster und letzter Stempel"],
@@ -239,6 +253,7 @@ const labels = {
   signVerdict: ["Verdict", "Urteil"], signName: ["Name", "Name"], signDate: ["Date", "Datum"],
   signed: ["Signature", "Unterschrift"],
   signNoSum: ["this browser gives no checksum", "dieser Browser gibt keine Prüfsumme"],
+  signAll: ["In the files: {0}", "In den Dateien: {0}"],
   signOnly: ["Shown is only what was chosen: {0}.", "Gezeigt ist nur, was ausgewählt war: {0}."],
   signMoreBatches: ["Charts and logs of {0} further batches aren't on paper: choose a batch and print again.",
     "Pläne und Protokolle von {0} weiteren Chargen stehen nicht auf dem Papier: eine Charge auswählen und erneut "
@@ -253,7 +268,6 @@ const labels = {
   report: ["{tag} reports {service}: {StateCur:state}{mode}", "{tag} meldet {service}: {StateCur:state}{mode}"],
   variable: ["{tag} reports {name} = {value}", "{tag} meldet {name} = {value}"],
   recipeEvent: ["recipe {recipe} is made known", "Rezept {recipe} wird bekannt"],
-  signAll: ["In the files: {0}", "In den Dateien: {0}"],
   startEvent: ["batch {batch} of recipe {recipe} is to start on {bind:bind}{watch:watch}",
     "Charge {batch} von Rezept {recipe} soll starten auf {bind:bind}{watch:watch}"],
   watches: [", watching {0}", ", beobachtet {0}"],
@@ -272,6 +286,7 @@ const labels = {
   exchange_cancel: ["the exchange of {tag} under ticket {ticket} is cancelled",
     "der Tausch von {tag} unter Ticket {ticket} wird abgesagt"],
   noEvent: ["no event", "kein Ereignis"],
+  eventMissing: ["its line isn't among the files", "die Zeile dazu ist nicht unter den Dateien"],
   // Entries of the log.
   didStart: ["Start is asked for: {service} of {tag}, procedure {procedure} (step {step})",
     "Start wird verlangt: {service} von {tag}, Prozedur {procedure} (Schritt {step})"],
@@ -286,7 +301,6 @@ const labels = {
     "Hold wird verlangt: {service} von {tag} (Schritt {step})"],
   didUnhold: ["Unhold is asked for: {service} of {tag} (step {step})",
     "Unhold wird verlangt: {service} von {tag} (Schritt {step})"],
-  eventMissing: ["its line isn't among the files", "die Zeile dazu ist nicht unter den Dateien"],
   didChose: ["arm {arm} of node {node} is chosen, by {values:values}",
     "Zweig {arm} von Knoten {node} ist gewählt, wegen {values:values}"],
   didTurn: ["loop {node} turns once more, by {values:values}",
@@ -303,7 +317,8 @@ const labels = {
   byNothing: ["nothing", "nichts"],
   procedureOf: ["procedure {0} of {1}", "Prozedur {0} von {1}"],
   // Phases of a step.
-  phase_on: ["runs", "läuft"], phase_ending: ["asked to reset", "soll zurücksetzen"],
+  phase_on: ["runs", "läuft"], phase_finish: ["asked to complete", "soll abschließen"],
+  phase_ending: ["asked to reset", "soll zurücksetzen"],
   phase_held: ["asked to hold", "soll halten"],
   phase_done: ["ended", "zu Ende"], phase_off: ["asked to stop", "soll stoppen"],
   phase_left: ["left running: go and look", "laufend verlassen: nachsehen"],

@@ -180,8 +180,8 @@ const page = (() => {
     const attempt = batch ? null : history.attempts.get(name) ?? null, names = named();
     by("which").replaceChildren(...names.map(each => option(each, each, name)));
     by("which").hidden = names.length === 0;
-    const any = batch ? null : history.recipes.get(attempt?.recipe) ?? history.recipes.values().next().value;
-    const known = batch?.known ?? any ?? null, standing = here.place(history, batch, view.cursor);
+    const any = attempt ? history.recipes.get(attempt.recipe) : history.recipes.values().next().value;
+    const known = (batch ? batch.known : any) ?? null, standing = stand.place(history, batch, view.cursor, known);
     const never = attempt ? `${attempt.recipe} · ${words.say("neverStarted")}` : known?.name ?? "";
     by("under").textContent = batch ? here.under(batch, standing) : never;
     if (known) here.drawn(by("chart"), known, standing);

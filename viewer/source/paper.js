@@ -56,13 +56,12 @@ const paper = (() => {
     const rows = [...own.map(each => tables.batchRow(each, history, none)),
       ...never.map(each => tables.neverRow(each, none))];
     if (!rows.length) return section("overview", tables.calm(chosen.none("noBatch")));
-    const running = reasons.still(chosen).map(({ name, text, since, again }) =>
-      [name, [[text, since, again].filter(each => each).join(" · ")]]);
-    const why = [...running, ...never.map(each => [each.name, reasons.never(each, history)])];
-    const told = ([name, list]) => make("p", { class: "why" }, make("b", {}, words.visible(name)),
-      `: ${list.join(" ")}`);
-    return section("overview", cut(tables.BATCH_KEYS, rows, "overview"),
-      ...why.filter(([, list]) => list.length).slice(0, MOST_ROWS).map(told));
+    const running = reasons.still(chosen).map(({ name, text, since, again, branches }) =>
+      [name, [text, since, again].filter(each => each).join(" · "), branches]);
+    const why = [...running, ...never.map(each => [each.name, reasons.never(each, history).join(" "), []])];
+    const told = ([name, text, branches]) => make("div", { class: "why" }, make("b", {}, words.visible(name)),
+      `: ${text}`, ...branches.map(each => make("span", { class: "branch" }, each)));
+    return section("overview", cut(tables.BATCH_KEYS, rows, "overview"), ...why.slice(0, MOST_ROWS).map(told));
   }
   function refusals(chosen) {
     const found = [...chosen.refusals()].sort(([, one], [, two]) => two.length - one.length);
@@ -122,7 +121,7 @@ const paper = (() => {
   // Chart and log of a batch; more of the log where the batch alone is chosen.
   function figure(batch, found, history, isAlone) {
     const holder = make("div", { class: "drawn" }), { at } = batch.log, shown = at.slice(0, isAlone ? ALONE : MOST_LOG);
-    const end = batch.ended ?? history.stamps.length - 1, standing = here.place(history, batch, end);
+    const end = batch.ended ?? history.stamps.length - 1, standing = stand.place(history, batch, end, batch.known);
     if (batch.known) here.drawn(holder, batch.known, standing);
     const log = shown.map(each => make("li", { value: each + 1 }, history.answerTo(each, ...found.entry(each))));
     const left = at.length - log.length, more = left ? words.say("signMoreLog", words.number(left)) : "";

@@ -156,6 +156,10 @@ const past = (() => {
     doubt({ place, why, says }) {
       this.alarm(place, "abort", {}, "auditHere", String(why), says);
     }
+    kindOfType(type, name) {
+      const last = [...this.modules.values()].map(({ docks }) => docks[docks.length - 1]);
+      return last.find(each => each?.type === type && each.kinds.has(name))?.kinds.get(name);
+    }
     kindAt(tag, name, at) { return this.modules.get(tag)?.kindAt(name, at); }
     // The values by which a node decided, each with its variable's name and in its unit.
     decided(batch, did, at) {

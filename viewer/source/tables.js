@@ -138,12 +138,13 @@ const tables = (() => {
     const items = told.slice(0, MOST_WAITS).map(each => waitItem(each, go, pick, stamps));
     holder.replaceChildren(items.length ? make("ul", {}, ...items) : calm(none));
   }
-  function stillItem({ name: batch, at, text, since, again }, go, pick) {
+  function stillItem({ name: batch, at, text, since, again, branches }, go, pick) {
     const under = make("span", { class: "small block" }, since, again ? " · " : null,
       again ? make("b", { class: "again" }, again) : null);
-    return make("li", {}, picked(batch, pick), jump(at, go), make("span", {}, text), under);
+    const each = branches.map(branch => make("span", { class: "small branch" }, branch));
+    return make("li", {}, picked(batch, pick), jump(at, go), make("span", {}, text), under, ...each);
   }
-  // What waits or stands still at the end.
+  // What waits or stands still at the end, and by each batch where its branches stand.
   function still(holder, told, go, pick) {
     const items = told.slice(0, MOST).map(each => stillItem(each, go, pick)), left = told.length - items.length;
     if (left) items.push(make("li", { class: "calm" }, words.say("more", words.number(left))));
