@@ -25,6 +25,7 @@ ASKED = ((6, 'ann asked dose of DOS1 for Start: permitted'),
 
 def check(checks):
     check_guard(checks)
+    check_policy_beside(checks)
     check_answers_alone(checks)
     check_policy_replayed(checks)
     check_finder(checks)
@@ -63,6 +64,15 @@ def check_guard(checks):
     checks.says('guard: in German', 'alarms', 'cat verlangte Start von drain an MIX1: verweigert von der Regel')
     checks.says('guard: and the list', 'refused', 'Keine Regel der Richtlinie erlaubt es', 'verlangt von dan, eve')
     checks.press('language')
+
+
+def check_policy_beside(checks):
+    """The policy may lie in a file of its own, as it may be given to the program in front of a journal."""
+    policy, *journal = checks.example('policy.jsonl').read_text().splitlines(keepends=True)
+    files = [checks.kept('own', policy), checks.kept('behind', ''.join(journal)), checks.data('policy.answers')]
+    checks.open(*files)
+    checks.says('a policy in a file of its own', 'counts', '8 entries', '5 denied')
+    checks.gives('has no answer', "document.getElementById('faults').innerText", '')
 
 
 def check_answers_alone(checks):
@@ -166,5 +176,11 @@ def check_nothing(checks):
     checks.open(checks.kept('demo', '{"answers":1028,"closed":1,"refused":0}\n'))
     checks.says('the counts of a demo are told to be so', 'faults', 'the counts of a demo journal')
     checks.gives('and nothing is claimed', SEEN, ['faults'])
+    for key in ('ArrowRight', 'End', 'n', '+', '0', 'Home'):
+        checks.page.key(key)
+    checks.gives('nor by any key', SEEN, ['faults'])
     checks.open(checks.example('site.json'))
     checks.gives('a site alone: nothing is claimed', SEEN, [])
+    full = '{"refused":38,"rule":"HistoryFull"}\n'
+    checks.open(checks.kept('full', '{"done":true}\n' + full * 3 + '{"end":true}\n'))
+    checks.says('what a full history refuses is no entry', 'counts', '1 entry', '3 refused')

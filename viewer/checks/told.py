@@ -48,11 +48,29 @@ DRAWN = """(() => { const { history } = page.state; return {
   }; })()""" % json.dumps(KINDS)
 
 
+# Of each advance: the step or node that it did or waited for is one at which the page says that the batch stood; of a
+# wait the first such, but where something is to be unheld first.
+TURNS = """(() => { const { history, found } = page.state, wrong = [];
+    for (let k = 0; k < found.length; k += 1) {
+      const [event, answer] = found.entry(k), batch = history.batches.get(event?.batch);
+      if (event?.ev !== 'advance' || !answer || !batch?.known) continue;
+      const keys = awaited.at(batch, k - 1).map(node => node.step ?? batch.known.numbers.get(node));
+      const { did } = answer, isDone = did && %s.includes(did.do), key = isDone ? did.step ?? did.node
+        : 'wait' in answer ? answer.step ?? answer.node : undefined;
+      const isHeld = [...batch.standing(k - 1).steps.values()].some(({ phase }) => phase === 'held');
+      const isRight = isDone || isHeld ? keys.includes(key) : keys[0] === key;
+      if (key !== undefined && !isRight) wrong.push([k + 1, key, keys]);
+    }
+    return wrong; })()""" % json.dumps(['start', 'finish', 'reset', 'end', 'unhold', 'chose', 'turn', 'leave'])
+
+
 def compare(checks, name, *files):
     """Opens files, the last of which has the output."""
     checks.open(*files)
-    wanted = counts_of(files[-1].read_text().splitlines())
-    checks.same(name + ': what is drawn is what the output says', checks.run(DRAWN), wanted)
+    lines = files[-1].read_text().splitlines()
+    checks.same(name + ': what is drawn is what the output says', checks.run(DRAWN), counts_of(lines))
+    if len(lines) < 2000:
+        checks.gives(name + ': each branch stands where the answers say', TURNS, [])
 
 
 def seal_of(checks):

@@ -27,12 +27,14 @@ const awaited = (() => {
     const found = turns(batch.known.chart, batch.known, standing);
     return isFrozen ? found.filter(node => "step" in node && phaseOf(standing, node).phase !== "") : found;
   }
-  // Those for which it waits, by step and number: once something is to be unheld, the steps that were held alone.
+  // Those for which it waits, by step and number. Where the answer names a step that was held, that is to be unheld
+  // first, and the others come later.
   function keys(batch, cursor) {
     const wait = batch.waitAt(cursor), standing = batch.standing(cursor);
     if (wait === null || wait.wait === "Frozen") return new Set();
     const found = at(batch, cursor), held = found.filter(node => phaseOf(standing, node).phase === "held");
-    return new Set((held.length ? held : found).map(node => node.step ?? batch.known.numbers.get(node)));
+    const own = held.some(({ step }) => step === wait.step) ? held : found;
+    return new Set(own.map(node => node.step ?? batch.known.numbers.get(node)));
   }
   // What was reported last of a step's service, in words.
   function reported(tag, service, module, cursor) {
@@ -75,5 +77,5 @@ const awaited = (() => {
       return words.visible(parts.filter(part => part).join(" · "));
     });
   }
-  return { keys, told };
+  return { at, keys, told };
 })();

@@ -44,8 +44,12 @@ const past = (() => {
       Object.assign(this, { stamps: [], tags: [], names: [], rules: [] });
       this.counts = Object.fromEntries(["lines", "none", ...KINDS].map(kind => [kind, 0]));
     }
-    // How many entries the history has: a line at fault is none, and neither is a command that a policy denied.
-    get entries() { return this.counts.lines - this.counts.bad - this.counts.denied; }
+    // How many entries the history has: a line at fault is none, nor is a command that a policy denied, nor what a full
+    // history refused.
+    get entries() {
+      const { lines, bad, denied } = this.counts;
+      return lines - bad - denied - (this.refusals.get("HistoryFull")?.length ?? 0);
+    }
     // A text that comes again and again is kept once.
     once(text) {
       if (typeof text !== "string") return null;
