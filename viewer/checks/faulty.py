@@ -10,6 +10,7 @@ def check(checks):
     check_faults(checks)
     check_answers(checks)
     check_hostile(checks)
+    check_forged_jobs(checks)
 
 
 def site_lines(checks):
@@ -40,7 +41,8 @@ def check_other_verdicts(checks):
              ('of a place behind the end', answer.replace('10', '113'), 'finds entry 114 wrong', 'here are 113'),
              ('of too many', '{"audit":"bad","place":20000,"why":"TooMany"}', 'entry 20', 'here are 113'),
              ('of what stands right here', answer, 'the answer of entry 11 wrong', 'here that answer is what'),
-             ('of no form', '{"audit":"fine"}', "isn't of the form", "isn't shown"))
+             ('of no form', '{"audit":"fine"}', "isn't of the form", "isn't shown"),
+            ('of no number', '{"audit":"good"}', "isn't of the form", "isn't shown"))
     for name, verdict, *texts in cases:
         checks.open(checks.kept('other', history + verdict + '\n'))
         checks.gives('a verdict %s is no seal' % name, SEAL, 'none')
@@ -84,7 +86,7 @@ def check_answers(checks):
     wrong = answers.splitlines(keepends=True)
     wrong.insert(5, wrong.pop(20))
     checks.open(blend, checks.kept('moved', ''.join(wrong)))
-    checks.says('answers that can\'t be of their events are told', 'faults', "answers can't be of their events")
+    checks.says('answers that can\'t be of their events are told', 'faults', "answers that can't be of their events")
     checks.open(checks.data('site'), checks.kept('twice', ''.join(site_lines(checks)[:-1])))
     checks.says('two outputs at once are told', 'faults', '2 end lines')
     checks.open(checks.kept('joined', blend.read_text() + answers))
@@ -106,3 +108,22 @@ def check_hostile(checks):
         checks.says(name, 'here', text)
     checks.is_true('no name is taken for something of the language',
                    "page.state.history.batches.get('constructor').outcome === null")
+
+
+def check_forged_jobs(checks):
+    """Lines of guard and find that nobody writes: what is in them stays text, and nothing is thrown."""
+    image = '<img src=x onerror=document.body.dataset.hit=1>'
+    desk = {'ev': 'desk', 'tag': 'M', 'service': 'x', 'CommandOp': 4}
+    events = [{'groups': [], 'rules': []}, *(dict(desk, at=1, by=by) for by in (image, 7, '__proto__', image))]
+    answers = [{'denied': True, 'policy': image}, {'denied': True, 'policy': {'a': 1}}, {'denied': False},
+               {'denied': True, 'policy': '__proto__'}, {'end': True}]
+    rows = [{'recipe': {'x': 1}, 'bind': {'A': 7, image: image}}, {'recipe': image, 'short': [1], 'tags': None},
+            {'recipe': 'r', 'short': [], 'tags': 'M'}, {'bad': image, 'end': True}]
+    checks.open(*(checks.kept(name, made.text(lines)) for name, lines in
+                  (('forged-guard', events), ('forged-guard.answers', answers), ('forged-find', rows))))
+    checks.visit(4)
+    checks.says('forged rules of a policy stay text', 'refused', image, '__proto__')
+    checks.says('forged rows of find stay text', 'finder', image)
+    checks.run("dispatchEvent(new Event('beforeprint')); dispatchEvent(new Event('afterprint'))")
+    checks.is_true('and nothing of them runs',
+                   "!document.body.dataset.hit && !document.querySelector('main img, #paper img:not([src^=data])')")

@@ -136,8 +136,8 @@ const labels = {
     + "and the batch lines follow.",
     "audit fand {0} Einträge wahr: jede Antwort ist die, die der Blick zurück in die Historie ergibt, und "
     + "die Zeilen der Chargen folgen."],
-  otherLength: ["A verdict of {0} entries came along; here are {1}. It is of another file, and isn't shown.",
-    "Ein Urteil über {0} Einträge ist dabei; hier sind {1}. Es gilt einer anderen Datei und wird nicht gezeigt."],
+  otherLength: ["A verdict of {0} came along; here are {1}. It is of another file, and isn't shown.",
+    "Ein Urteil über {0} ist dabei; hier sind {1}. Es gilt einer anderen Datei und wird nicht gezeigt."],
   otherPlace: ["A verdict came along that finds entry {0} wrong; here are {1}. It is of another file, and isn't shown.",
     "Ein Urteil ist dabei, nach dem Eintrag {0} falsch ist; hier sind {1}. Es gilt einer anderen Datei und wird nicht "
     + "gezeigt."],
@@ -163,20 +163,21 @@ const labels = {
     + "modules and batches.",
     "Die Dateien enthalten Antworten ohne ihre Ereignisse: was abgelehnt wurde, ist aufgeführt. Mit dem Journal dabei "
     + "sind auch Module und Chargen zu sehen."],
-  kept: ["{0} is the file of a kept plant, with {1} events. The job export makes a journal of it, and a replay of that "
-    + "the answers.",
-    "{0} ist die Datei einer aufbewahrten Anlage, mit {1} Ereignissen. export macht daraus ein Journal, und dessen "
-    + "Wiedergabe (replay) die Antworten."],
+  kept: ["{0} is the file of a kept plant, with {1}. The job export makes a journal of it, and a replay of that the "
+    + "answers.",
+    "{0} ist die Datei einer gespeicherten Anlage, mit {1}. export macht daraus ein Journal, und dessen Wiedergabe "
+    + "(replay) die Antworten."],
+  nEvents: ["{0} events", "{0} Ereignissen"], n1Events: ["1 event", "1 Ereignis"],
   keptEmpty: ["{0} is the file of a kept plant, without events.",
-    "{0} ist die Datei einer aufbewahrten Anlage, ohne Ereignisse."],
+    "{0} ist die Datei einer gespeicherten Anlage, ohne Ereignisse."],
   keptBroken: ["{0}: behind event {1}, from byte {2} on, it isn't a file that the job keep writes.",
     "{0}: hinter Ereignis {1}, ab Byte {2}, ist es keine Datei, die keep schreibt."],
   summary: ["the counts of a demo journal; there is nothing in it to draw",
     "die Zählung eines demo-Journals; darin ist nichts zu zeichnen"],
-  oddAnswers: ["{0} answers can't be of their events, the first at {1}: the files don't belong together, or one was "
-    + "changed",
-    "{0} Antworten können nicht zu ihren Ereignissen gehören, die erste bei {1}: die Dateien gehören nicht zusammen, "
-    + "oder eine wurde geändert"],
+  oddAnswers: ["answers that can't be of their events: {0}, the first at {1}; the files don't belong together, or one "
+    + "was changed",
+    "Antworten, die nicht zu ihren Ereignissen gehören können: {0}, die erste bei {1}; die Dateien gehören nicht "
+    + "zusammen, oder eine wurde geändert"],
   manyEnds: ["{0} end lines: the files hold several outputs, which are drawn one behind another",
     "{0} Endzeilen: die Dateien enthalten mehrere Ausgaben, die hintereinander gezeichnet sind"],
   noEnd: ["the end line is missing: the output is cut", "die Endzeile fehlt: die Ausgabe ist abgeschnitten"],

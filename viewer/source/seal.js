@@ -16,8 +16,10 @@ const seal = (() => {
       inWords: `${words.say("auditBad")}, ${where}: ${more}. ${words.say("namesNoFile")}` };
   }
   // Why verdicts that came along aren't shown.
-  const unlike = (found, history) => verdicts.others(found, history)
-    .map(([key, ...values]) => words.say(key, ...values.map(words.number)));
+  function unlike(found, history) {
+    const said = key => (key === "otherLength" ? value => words.many("Entries", value) : words.number);
+    return verdicts.others(found, history).map(([key, ...values]) => words.say(key, ...values.map(said(key))));
+  }
   function told(found, history) {
     const verdict = verdicts.own(found, history), missing = words.say("sealMissing");
     if (verdict) return verdict.audit === "good" ? good(verdict) : bad(verdict, history);
@@ -35,7 +37,8 @@ const seal = (() => {
   // What is told of kept files: how many events they have, and where one is broken.
   const keptFiles = ({ files }) => files.filter(file => file.kept).flatMap(({ name, kept: { events, broken } }) => {
     const count = words.number(events), cut = words.say("keptBroken", name, count, words.number(broken ?? 0));
-    return [words.say(events ? "kept" : "keptEmpty", name, count), ...(broken === null ? [] : [cut])];
+    const what = words.say(events ? "kept" : "keptEmpty", name, words.many("Events", events));
+    return [what, ...(broken === null ? [] : [cut])];
   });
   // How the files don't fit together: events without answers, answers without events, or not as many of each.
   function unpaired({ events, answers, hasEvents, hasAnswers, ends, length, finder, verdicts: own, site }, { odd }) {

@@ -14,8 +14,8 @@ const verdicts = (() => {
   // Why a verdict can't be of these files, as a key of the labels with its values; null where it can.
   function doubt(verdict, found, history) {
     const { entries } = history, place = Number(verdict.place);
-    if (verdict.audit === "good") {
-      return Number(verdict.entries) === entries ? null : ["otherLength", verdict.entries, entries];
+    if (verdict.audit === "good" && Number.isInteger(verdict.entries)) {
+      return verdict.entries === entries ? null : ["otherLength", verdict.entries, entries];
     }
     if (verdict.audit !== "bad" || !Number.isInteger(place) || place < 0) return ["otherVerdict"];
     const lines = entries + found.batches.length + found.faults.length + 1;
