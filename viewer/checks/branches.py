@@ -28,6 +28,7 @@ WANTED = {
     'again': ('waits: step mix may not command (ModeForbids)', [
         'mix: not begun · stir of K15 was reported last in Idle, Operator, Internal']),
     'off': ('last: from now on each advance asks a step for Stop, or leaves it', []),
+    'snow': ('waits: frozen', []),
 }
 GERMAN = ('heat: läuft · heat von K11 wurde zuletzt in Execute, Operator, Internal gemeldet · im Plan: '
           'kettle.temperature ≥ 60 · kettle.temperature wurde zuletzt mit 61 gemeldet')
