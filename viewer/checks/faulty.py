@@ -55,8 +55,15 @@ def check_other_verdicts(checks):
     checks.open(checks.kept('two', history + cases[0][1] + '\n' + good))
     checks.gives('of two verdicts the fitting one is shown', SEAL, 'good')
     checks.says('and the other is told', 'faults', 'verdict of 112 entries')
-    checks.open(checks.kept('verdict', good))
-    checks.says('a verdict alone is of nothing here', 'faults', 'verdict of 113 entries', 'here are 0')
+    blend, own = checks.example('blend.jsonl'), checks.kept('verdict', good.replace('113', '34'))
+    answers, kind = checks.data('blend.answers'), 'but no history with its events and answers'
+    for name, files, text in (('alone', [own], 'here are 0 entries'), ('beside a journal', [own, blend], kind),
+                              ('beside answers', [own, answers], kind)):
+        checks.open(*files)
+        checks.gives('a verdict %s is no seal' % name, SEAL, 'none')
+        checks.says('a verdict %s is told' % name, 'faults', text)
+    checks.open(own, blend, answers)
+    checks.gives('a verdict beside a journal and its answers is one', SEAL, 'good')
 
 
 def check_faults(checks):

@@ -145,6 +145,8 @@ const labels = {
     + "It is of another file, and isn't shown.",
     "Ein Urteil ist dabei, nach dem die Antwort von Eintrag {0} falsch ist; hier ist sie die richtige. Es gilt einer "
     + "anderen Datei und wird nicht gezeigt."],
+  otherKind: ["A verdict came along, but no history with its events and answers; it isn't shown.",
+    "Ein Urteil ist dabei, aber keine Historie mit ihren Ereignissen und Antworten; es wird nicht gezeigt."],
   otherVerdict: ["A verdict came along that isn't of the form that pol writes; it isn't shown.",
     "Ein Urteil ist dabei, das nicht von der Form ist, die pol schreibt; es wird nicht gezeigt."],
   whyAnswer: ["the answer isn't the one that the entries before it give",

@@ -14,6 +14,7 @@ const verdicts = (() => {
   // Why a verdict can't be of these files, as a key of the labels with its values; null where it can.
   function doubt(verdict, found, history) {
     const { entries } = history, place = Number(verdict.place);
+    if (found.length && !(found.hasAnswers && found.hasEvents)) return ["otherKind"];
     if (verdict.audit === "good" && Number.isInteger(verdict.entries)) {
       return verdict.entries === entries ? null : ["otherLength", verdict.entries, entries];
     }
