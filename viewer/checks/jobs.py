@@ -13,8 +13,8 @@ PRINTED = """[...document.querySelectorAll('#paper [aria-label="%s"] tbody tr')]
     .map(row => [...row.cells].map(cell => cell.textContent))"""
 # Each rule that refused in the worked policy, by whom it was met, and what stands there of it.
 DENIED = (('denied policy', '2', 'No rule of the policy allows it', 'asked by dan, eve'),
-          ('no-abort-by-hand policy', '2', 'This rule of the policy denies it', 'asked by ann, dan'),
-          ('shift-never-drains policy', '1', 'This rule of the policy denies it', 'asked by cat'),
+          ('no-abort-by-hand policy', '2', 'in the policy: Who: everybody · Command: Abort', 'asked by ann, dan'),
+          ('shift-never-drains policy', '1', 'in the policy: Who: shift · Service: drain', 'asked by cat'),
           ('StateForbids 31', '1', 'wait for another state', 'asked by ben'))
 ASKED = ((6, 'ann asked dose of DOS1 for Start: permitted'),
          (7, "cat asked drain of MIX1 for Start: denied by the policy's rule shift-never-drains"),

@@ -213,6 +213,8 @@ const labels = {
     + "history. Who may give it, the policy says.",
     "Keine Regel der Richtlinie erlaubt es; die Anlage sah den Befehl nie, und er steht nicht in der Historie. Wer ihn "
     + "geben darf, sagt die Richtlinie."],
+  inPolicy: ["in the policy: {0}", "in der Richtlinie: {0}"], everybody: ["everybody", "alle"],
+  service: ["Service", "Dienst"],
   askedFor: ["asked by {0}", "verlangt von {0}"], who: ["Who", "Wer"],
   // What the job find says.
   finder: ["Which modules are left for a recipe", "Welche Module für ein Rezept übrig sind"],

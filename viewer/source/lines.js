@@ -83,6 +83,12 @@ const lines = (() => {
       this.events.insert(this.policy.before, this.policy.place);
       this.policy = null;
     }
+    // The rules of the policy by their names.
+    get rules() {
+      if (this.policy === null) return new Map();
+      const [file, from, to] = this.policy.place, { rules } = parsed(this.files[file].text.slice(from, to));
+      return new Map(rules.filter(isObject).map(rule => [rule.name, rule]));
+    }
     bound(row) {
       this.finder ??= { rows: [], bad: null };
       if (kindOf(row) === "binding") this.finder.rows.push(row); else this.finder.bad = row.bad;

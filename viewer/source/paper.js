@@ -68,8 +68,9 @@ const paper = (() => {
     if (!found.length) return section("refusals", tables.calm(chosen.none("noRefusal")));
     return section("refusals", cut(["rule", "count", "remedy", "place"], found.map(([rule, places]) => {
       const more = places.length > 6 ? ` … (${words.say("more", words.number(places.length - 6))})` : "";
-      const { name, remedy } = words.refusedBy(rule), who = tables.askers(places, chosen.history);
-      return [name, words.number(places.length), [remedy, who].filter(each => each).join(" · "),
+      const { name, remedy, holds } = words.refusedBy(rule);
+      const under = tables.below(rule, places, chosen.history).filter(each => each !== holds);
+      return [name, words.number(places.length), [remedy, ...under].join(" · "),
         places.slice(0, 6).map(at => words.number(at + 1)).join(", ") + more];
     }), "refusals"));
   }

@@ -36,10 +36,10 @@ const past = (() => {
   class History {
     // Where the files have no answers, each event is assumed to be accepted; where they have no events, nobody knows
     // what became of a module or a batch.
-    constructor({ hasAnswers, hasEvents, whole }) {
+    constructor({ hasAnswers, hasEvents, whole, rules: policy }) {
       Object.assign(this, { assumed: !hasAnswers, isBlind: !hasEvents, isOfPlant: whole.length > 0, modules: new Map(),
         batches: new Map(), recipes: new Map(), refusals: new Map(), attempts: new Map(), known: new Map(),
-        people: new Map(), alarms: [], desk: [], exchanges: [], never: [], odd: [] });
+        people: new Map(), policy, alarms: [], desk: [], exchanges: [], never: [], odd: [] });
       // Of each entry: its stamp, the tag and the batch that it names, the rule that refused it.
       Object.assign(this, { stamps: [], tags: [], names: [], rules: [] });
       this.counts = Object.fromEntries(["lines", "none", ...KINDS].map(kind => [kind, 0]));

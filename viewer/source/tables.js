@@ -93,9 +93,15 @@ const tables = (() => {
     const told = [...times].map(([person, count]) => (count === 1 ? person : `${person} (${words.number(count)})`));
     return told.length ? words.say("askedFor", told.join(", ")) : "";
   }
+  // What is said below a rule that refused: when it holds, or what a policy's rule has; and who asked.
+  function below(rule, places, history) {
+    const own = history.policy.get(rule.slice("denied ".length)), isDenial = rule.startsWith("denied ") && own;
+    return [words.refusedBy(rule).holds, isDenial ? words.ruleFor(own) : "", askers(places, history)]
+      .filter(each => each);
+  }
   function refusalRow(rule, places, go, current, history) {
     const own = words.refusedBy(rule), next = () => go(places[(spans.below(places, current()) + 1) % places.length]);
-    const under = [own.holds, askers(places, history)].filter(each => each);
+    const under = below(rule, places, history);
     return make("tr", {},
       make("td", { class: "rule" }, make("b", {}, own.name), make("span", { class: "small" }, ` ${own.more}`)),
       make("td", { class: "number" }, words.number(places.length)),
@@ -150,6 +156,6 @@ const tables = (() => {
     if (left) items.push(make("li", { class: "calm" }, words.say("more", words.number(left))));
     holder.replaceChildren(make("ul", {}, ...items));
   }
-  return { make, name, jump, table, more, NUMBERS, chip, calm, batches, alarms, alarmTold, refusals, askers, finder,
+  return { make, name, jump, table, more, NUMBERS, chip, calm, batches, alarms, alarmTold, refusals, below, finder,
     waits, still, BATCH_KEYS, batchRow, neverRow };
 })();

@@ -134,6 +134,13 @@ const words = (() => {
     }
     return { name: visible(key), more: "", remedy: say(key.startsWith("bad ") ? "badLine" : "noWords"), holds: "" };
   }
+  // For whom and what a policy's rule is, as it stands there: a list that is absent is for all.
+  function ruleFor({ who, tags, services, commands }) {
+    const lists = [["who", who ?? [say("everybody")]], ["module", tags], ["service", services],
+      ["command", Array.isArray(commands) ? commands.map(SAID.command) : undefined]];
+    const there = lists.filter(([, list]) => Array.isArray(list));
+    return say("inPolicy", there.map(([key, list]) => `${say(key)}: ${list.join(", ")}`).join(" · "));
+  }
   const withFields = (text, given) => text.replace(/\{(\w+)\}/g, (_, key) => {
     if (!Object.hasOwn(given, key)) return key;
     return visible(key === "state" ? SAID.state(given[key]) : given[key]);
@@ -142,6 +149,6 @@ const words = (() => {
   const word = (table, key) => (Object.hasOwn(docs[table], key) ? ownOf(table, key) : null);
   const set = isGerman => { language = isGerman ? 1 : 0; };
   return { say, many, visible, number, thousandths, value, stamp, isTime, left, lasted, event, answer, refusal, rule,
-    refusedBy, wait, word, listed, played, set,
+    refusedBy, ruleFor, wait, word, listed, played, set,
     state: SAID.state, command: SAID.command, isGerman: () => language === 1 };
 })();
