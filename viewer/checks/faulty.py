@@ -10,6 +10,7 @@ def check(checks):
     check_faults(checks)
     check_answers(checks)
     check_hostile(checks)
+    check_forged_jobs(checks)
 
 
 def site_lines(checks):
@@ -26,8 +27,43 @@ def check_verdicts(checks):
     checks.gives('a bad verdict is a red seal', SEAL, 'bad')
     checks.says('which says where and what', 'seal', 'entry 11 of 113', 'refused: ModeForbids')
     checks.gives('its place is in the list', "page.state.history.alarms.find(each => each.key === 'auditHere').at", 10)
-    checks.open(checks.kept('short', ''.join(lines) + '{"audit":"good","entries":112}\n'))
-    checks.gives('a verdict of another history is no good seal', SEAL, 'bad')
+    check_other_verdicts(checks)
+
+
+def check_other_verdicts(checks):
+    """A verdict names no file: it is shown only where it can be of the history that came along, and says so."""
+    history = ''.join(site_lines(checks)[:-1])
+    checks.open(checks.data('site'))
+    checks.says('a good verdict says that it names no file', 'seal', 'which names no file')
+    answer = '{"audit":"bad","place":10,"says":{"rule":"ModeForbids","refused":30},"why":"Answer"}'
+    cases = (('of fewer entries', '{"audit":"good","entries":112}', 'verdict of 112 entries', 'here are 113'),
+             ('of more entries', '{"audit":"good","entries":1130}', 'verdict of 1130 entries', 'here are 113'),
+             ('of a place behind the end', answer.replace('10', '113'), 'finds entry 114 wrong', 'here are 113'),
+             ('of too many', '{"audit":"bad","place":20000,"why":"TooMany"}', 'entry 20', 'here are 113'),
+             ('of what stands right here', answer, 'the answer of entry 11 wrong', 'here that answer is what'),
+             ('of no form', '{"audit":"fine"}', "isn't of the form", "isn't shown"),
+            ('of no number', '{"audit":"good"}', "isn't of the form", "isn't shown"))
+    for name, verdict, *texts in cases:
+        checks.open(checks.kept('other', history + verdict + '\n'))
+        checks.gives('a verdict %s is no seal' % name, SEAL, 'none')
+        checks.says('and is told: ' + name, 'faults', *texts)
+        checks.gives('and doubts no entry', "page.state.history.alarms.some(each => each.key === 'auditHere')", False)
+    checks.run("dispatchEvent(new Event('beforeprint'))")
+    checks.is_true('nor on paper', "!document.getElementById('paper').innerText.includes('found 113 entries true')")
+    checks.run("dispatchEvent(new Event('afterprint'))")
+    good = '{"audit":"good","entries":113}\n'
+    checks.open(checks.kept('two', history + cases[0][1] + '\n' + good))
+    checks.gives('of two verdicts the fitting one is shown', SEAL, 'good')
+    checks.says('and the other is told', 'faults', 'verdict of 112 entries')
+    blend, own = checks.example('blend.jsonl'), checks.kept('verdict', good.replace('113', '34'))
+    answers, kind = checks.data('blend.answers'), 'but no history with its events and answers'
+    for name, files, text in (('alone', [own], 'here are 0 entries'), ('beside a journal', [own, blend], kind),
+                              ('beside answers', [own, answers], kind)):
+        checks.open(*files)
+        checks.gives('a verdict %s is no seal' % name, SEAL, 'none')
+        checks.says('a verdict %s is told' % name, 'faults', text)
+    checks.open(own, blend, answers)
+    checks.gives('a verdict beside a journal and its answers is one', SEAL, 'good')
 
 
 def check_faults(checks):
@@ -54,6 +90,12 @@ def check_answers(checks):
     checks.gives('and the events are drawn', 'page.state.history.modules.size', 2)
     checks.open(blend, checks.kept('fewer', ''.join(answers.splitlines(keepends=True)[:20])))
     checks.says('answers that are too few are told', 'faults', '34 events and 20 answers')
+    wrong = answers.splitlines(keepends=True)
+    wrong.insert(5, wrong.pop(20))
+    checks.open(blend, checks.kept('moved', ''.join(wrong)))
+    checks.says('answers that can\'t be of their events are told', 'faults', "answers that can't be of their events")
+    checks.open(checks.data('site'), checks.kept('twice', ''.join(site_lines(checks)[:-1])))
+    checks.says('two outputs at once are told', 'faults', '2 end lines')
     checks.open(checks.kept('joined', blend.read_text() + answers))
     checks.gives('a journal and its output in one file', TOLD, '')
     checks.gives('give the same', 'page.state.history.counts.refused', 4)
@@ -73,3 +115,22 @@ def check_hostile(checks):
         checks.says(name, 'here', text)
     checks.is_true('no name is taken for something of the language',
                    "page.state.history.batches.get('constructor').outcome === null")
+
+
+def check_forged_jobs(checks):
+    """Lines of guard and find that nobody writes: what is in them stays text, and nothing is thrown."""
+    image = '<img src=x onerror=document.body.dataset.hit=1>'
+    desk = {'ev': 'desk', 'tag': 'M', 'service': 'x', 'CommandOp': 4}
+    events = [{'groups': [], 'rules': []}, *(dict(desk, at=1, by=by) for by in (image, 7, '__proto__', image))]
+    answers = [{'denied': True, 'policy': image}, {'denied': True, 'policy': {'a': 1}}, {'denied': False},
+               {'denied': True, 'policy': '__proto__'}, {'end': True}]
+    rows = [{'recipe': {'x': 1}, 'bind': {'A': 7, image: image}}, {'recipe': image, 'short': [1], 'tags': None},
+            {'recipe': 'r', 'short': [], 'tags': 'M'}, {'bad': image, 'end': True}]
+    checks.open(*(checks.kept(name, made.text(lines)) for name, lines in
+                  (('forged-guard', events), ('forged-guard.answers', answers), ('forged-find', rows))))
+    checks.visit(4)
+    checks.says('forged rules of a policy stay text', 'refused', image, '__proto__')
+    checks.says('forged rows of find stay text', 'finder', image)
+    checks.run("dispatchEvent(new Event('beforeprint')); dispatchEvent(new Event('afterprint'))")
+    checks.is_true('and nothing of them runs',
+                   "!document.body.dataset.hit && !document.querySelector('main img, #paper img:not([src^=data])')")

@@ -1,5 +1,6 @@
 """How the page looks at two widths and in two themes: nothing cut off, thrown or fetched, and enough contrast; and its
 pictures."""
+import jobs
 import told
 
 # What GUIDE.md shows: the example, and the entry at the cursor.
@@ -40,7 +41,7 @@ GROUNDS = {'ink': ('ground', 'lane', 'full', 'move', 'held', 'pause'), 'faint': 
 
 
 def check(checks):
-    for name, files in told.sets(checks).items():
+    for name, files in {**told.sets(checks), 'find': jobs.finder(checks), 'found': jobs.finder(checks)[1:]}.items():
         for wide in (1280, 390):
             checks.page.size(wide, 900)
             checks.open(*files)

@@ -35,7 +35,7 @@ def to_paper(checks, when):
 def check_one_batch(checks):
     checks.choose('chosenBatch', 'blue')
     to_paper(checks, 'before')
-    checks.says('paper of one batch says so', 'paper', 'only what was chosen: Batch blue')
+    checks.says('paper of one batch says so', 'paper', 'only what was chosen: Batch blue', 'In the files: 101 entries')
     outcomes = "document.querySelector('#paper [aria-label=\"Batches and their outcome\"] tbody').textContent"
     checks.is_true('and has no other', outcomes + ".includes('blue') && !%s.includes('red')" % outcomes)
     to_paper(checks, 'after')
@@ -44,5 +44,6 @@ def check_one_batch(checks):
 def check_verdict(checks):
     checks.open(checks.data('site'))
     to_paper(checks, 'before')
-    checks.says('paper: the verdict in words', 'paper', 'The job audit found 113 entries true')
+    checks.says('paper: the verdict in words', 'paper', 'The job audit found 113 entries true',
+                'The verdict names no file')
     to_paper(checks, 'after')

@@ -8,9 +8,7 @@ import made
 import rows
 
 # In this order: a refusal may have the field ticket too.
-KINDS = ('refused', 'bad', 'wait', 'did', 'closed', 'ticket', 'done')
-# What the other lines have that a replay, a run of a plant or an audit writes, or that a journal has.
-OTHERS = ('outcome', 'audit', 'end', 'ev')
+KINDS = ('refused', 'bad', 'denied', 'wait', 'did', 'closed', 'ticket', 'done')
 
 
 def kind_of(line):
@@ -19,10 +17,11 @@ def kind_of(line):
     return next((kind for kind in KINDS if kind in answer), None)
 
 
-def strangers(lines):
-    """The numbers of the lines of which the page knows no form: those that only the jobs find and guard write."""
-    read = map(json.loads, lines)
-    return [k + 1 for k, line in enumerate(read) if not kind_of(line) and not any(key in line for key in OTHERS)]
+def rule_of(kind, answer):
+    """The rule by which an answer refused, as the page names it."""
+    if kind == 'refused':
+        return answer['rule']
+    return ' '.join([kind] + [answer[key] for key in ('bad', 'policy') if key in answer])
 
 
 def counts_of(lines):
@@ -35,8 +34,8 @@ def counts_of(lines):
         elif kind:
             answer = line.get('answer', line)
             kinds[kind] += 1
-            if kind in ('refused', 'bad'):
-                rule = answer['rule'] if kind == 'refused' else 'bad ' + answer['bad']
+            if kind in ('refused', 'bad', 'denied'):
+                rule = rule_of(kind, answer)
                 rules[rule] = rules.get(rule, 0) + 1
     return {'kinds': kinds, 'rules': rules, 'batches': batches}
 
@@ -49,11 +48,29 @@ DRAWN = """(() => { const { history } = page.state; return {
   }; })()""" % json.dumps(KINDS)
 
 
+# Of each advance: the step or node that it did or waited for is one at which the page says that the batch stood; of a
+# wait the first such, but where something is to be unheld first.
+TURNS = """(() => { const { history, found } = page.state, wrong = [];
+    for (let k = 0; k < found.length; k += 1) {
+      const [event, answer] = found.entry(k), batch = history.batches.get(event?.batch);
+      if (event?.ev !== 'advance' || !answer || !batch?.known) continue;
+      const keys = awaited.at(batch, k - 1).map(node => node.step ?? batch.known.numbers.get(node));
+      const { did } = answer, isDone = did && %s.includes(did.do), key = isDone ? did.step ?? did.node
+        : 'wait' in answer ? answer.step ?? answer.node : undefined;
+      const isHeld = [...batch.standing(k - 1).steps.values()].some(({ phase }) => phase === 'held');
+      const isRight = isDone || isHeld ? keys.includes(key) : keys[0] === key;
+      if (key !== undefined && !isRight) wrong.push([k + 1, key, keys]);
+    }
+    return wrong; })()""" % json.dumps(['start', 'finish', 'reset', 'end', 'unhold', 'chose', 'turn', 'leave'])
+
+
 def compare(checks, name, *files):
     """Opens files, the last of which has the output."""
     checks.open(*files)
-    wanted = counts_of(files[-1].read_text().splitlines())
-    checks.same(name + ': what is drawn is what the output says', checks.run(DRAWN), wanted)
+    lines = files[-1].read_text().splitlines()
+    checks.same(name + ': what is drawn is what the output says', checks.run(DRAWN), counts_of(lines))
+    if len(lines) < 2000:
+        checks.gives(name + ': each branch stands where the answers say', TURNS, [])
 
 
 def seal_of(checks):
@@ -62,10 +79,10 @@ def seal_of(checks):
 
 def sets(checks):
     """The files of each example: a history, or a journal and its output."""
-    names = ('broken', 'hostile', 'watched', 'holding', 'left', 'still')
+    names = ('broken', 'hostile', 'watched', 'holding', 'left', 'still', 'branches')
     pair = {name: [checks.data(name), checks.data(name + '.answers')] for name in names}
-    blend = [checks.example('blend.jsonl'), checks.data('blend.answers')]
-    return {'site': [checks.data('site')], 'blend': blend, **pair}
+    example = {name: [checks.example(name + '.jsonl'), checks.data(name + '.answers')] for name in ('blend', 'policy')}
+    return {'site': [checks.data('site')], **example, **pair}
 
 
 def check(checks):
@@ -87,36 +104,46 @@ def check_journals(checks):
             checks.open(journal, answers)
             good = json.loads(output.splitlines()[0])['audit'] == 'good'
             checks.same('%s: the seal' % title, seal_of(checks), 'good' if good else 'bad')
-        elif strangers(output.splitlines()):
-            check_strangers(checks, title, journal, answers)
+        elif file == 'finding':
+            compare_found(checks, title, journal, answers)
         else:
             compare(checks, title, journal, answers)
 
 
-def check_strangers(checks, title, *files):
-    """Lines of a job that the page doesn't draw are told by their numbers, and all events are drawn."""
-    checks.open(*files)
-    wanted = [[files[-1].name, number] for number in strangers(files[-1].read_text().splitlines())]
-    checks.same(title + ': lines that are no answers are told',
-                checks.run('page.state.found.faults.map(each => [each.file, each.line])'), wanted)
-    events = [line for line in files[0].read_text().splitlines() if 'ev' in json.loads(line)]
-    checks.that(title + ': the events are drawn', checks.run('page.state.found.events.length') >= len(events) > 0)
+def compare_found(checks, title, journal, output):
+    """Opens a journal with what the job find says of it: each recipe stands in the table as its line says."""
+    checks.open(journal, output)
+    lines = [line for line in map(json.loads, output.read_text().splitlines()) if 'recipe' in line]
+    wanted = [[line['recipe'], *(f'{role} = {tag}' for role, tag in line.get('bind', {}).items()),
+               *line.get('short', []), *line.get('tags', [])] for line in lines]
+    rows = checks.run("[...document.querySelectorAll('#finder tbody tr')].map(each => each.textContent)")
+    is_told = len(rows) == len(wanted) and all(part in row for row, parts in zip(rows, wanted) for part in parts)
+    checks.that(title + ': each recipe is told', is_told, rows)
+    events = [line for line in journal.read_text().splitlines() if 'ev' in json.loads(line)]
+    checks.same(title + ': and the events are drawn', checks.run('page.state.found.events.length'), len(events))
+
+
+def program_of(checks):
+    """Runs a job of the built program in a folder; None where it isn't built."""
+    program = checks.repository / 'crates' / 'pol' / 'out' / 'pol'
+
+    def run(job, given=b'', folder=None):
+        words = [program, '--job', job]
+        return subprocess.run(words, input=given, capture_output=True, check=True, cwd=folder).stdout
+    return run if program.exists() else None
 
 
 def check_program(checks):
     """Where the program is built: its answers are those that are stored, and a run of the site is drawn as it says."""
-    program = checks.repository / 'crates' / 'pol' / 'out' / 'pol'
-    if not program.exists():
+    run = program_of(checks)
+    if not run:
         print('      the program is not built: stored output is taken as it is')
         return
-
-    def run(job, given):
-        return subprocess.run([program, '--job', job], input=given, capture_output=True, check=True).stdout
     for name, files in sets(checks).items():
         if len(files) == 1:
             continue
         journal, answers = files
-        made_now = run('replay', journal.read_bytes())
+        made_now = run('guard' if name == 'policy' else 'replay', journal.read_bytes())
         checks.that(name + ': the stored output is the program\'s', made_now == answers.read_bytes())
     plant = run('plant', checks.example('site.json').read_bytes())
     history = checks.kept('run', (plant + run('audit', plant)).decode())

@@ -2,10 +2,13 @@
 what is said of values, versions, waits and batches that never started."""
 import json
 
+import rows
+
 
 def check(checks):
     for part in (check_drop_and_keys, check_language, check_alarms, check_hands, check_chart, check_choice,
-                 check_reader, check_values, check_holding_and_watching, check_waits, check_never_started):
+                 check_reader, check_values, check_units, check_holding_and_watching, check_waits,
+                 check_never_started, check_before_start):
         part(checks)
 
 
@@ -155,6 +158,34 @@ def check_values(checks):
     for entry, version in ((exchange - 1, 'Mixer 2.1.3'), (exchange, 'Mixer 2.2.0')):
         code = "page.state.history.modules.get('X201').lane.more.textAt(%d)" % entry
         checks.gives('the version at the cursor', code, version)
+
+
+def check_units(checks):
+    """Thousandths are said as what they stand for also before a batch began, and in a recipe that none has."""
+    checks.open(checks.data('branches'), checks.data('branches.answers'))
+    limits = """page.panes.batches.lanes.filter(lane => lane.label === 'kettle.temperature')
+        .map(lane => lane.limits(10))"""
+    checks.gives('limits before a batch began', limits, ['≥ 60', '≥ 60', '≥ 60'])
+    plain = checks.data('branches').read_text().splitlines(keepends=True)[:8]
+    checks.open(checks.kept('recipes', ''.join(plain)))
+    checks.says('limits of a recipe without a batch', 'chart', 'temperature ≥\u00a060')
+    checks.that('and not as they are written', '60000' not in checks.text('chart'))
+    start = '{"ev":"start","at":1795940000000,"batch":"x","recipe":"ghost","bind":{"kettle":"K11"}}\n'
+    answers = '{"done":true}\n' * 8 + '{"refused":13,"rule":"NoRecipe"}\n{"end":true}\n'
+    checks.open(checks.kept('ghost', ''.join(plain) + start), checks.kept('ghost.answers', answers))
+    checks.choose('which', 'x')
+    checks.says('of a recipe that isn\'t known no chart is drawn', 'chart', 'No recipe is known')
+
+
+def check_before_start(checks):
+    """That another batch held a module is told where a batch was to start by then: in a journal, by a start refused."""
+    title = 'an abandoned batch frees its modules'
+    given, output = next(each[2:] for each in rows.journals(checks.repository) if each[1] == title)
+    told = 'Before its start N was held by r1, entries 7 to 9'
+    for name, journal, wanted in (('first', given, False), ('second', given.replace('"r2"', '"r3"'), True)):
+        checks.open(checks.kept('before', journal), checks.kept('before.answers', output))
+        checks.choose('which', 'r3')
+        checks.same('what was before a start: the %s try' % name, told in checks.text('waits'), wanted)
 
 
 def check_holding_and_watching(checks):

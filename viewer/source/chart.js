@@ -93,7 +93,7 @@ const chart = (() => {
   function step(node, place) {
     const own = phaseOf(place, node.step), under = `${node.service} @ ${node.role}`;
     const wide = Math.max(112, 56 + wideOf(String(node.step), true), 22 + wideOf(under));
-    const isAwaited = place.wait?.step === node.step || (own?.phase === "on" && place.wait?.wait === "Away");
+    const isAwaited = place.awaits.has(node.step) || place.wait?.step === node.step;
     return { l: wide / 2, r: wide / 2, h: BOX, draw(g, x, y, style = "") {
       const group = put(g, "g", { class: `step ${own?.phase ?? ""} ${style} ${isAwaited ? "waits" : ""}` });
       group.dataset.step = node.step;
@@ -125,7 +125,7 @@ const chart = (() => {
       const turns = place.standing?.turns.get(number) ?? 0;
       return loop(part(node.loop, known, place), transitionOf(node.until, place, true), turns);
     }
-    const arm = place.standing?.arms.get(number), isNow = place.wait?.node === number;
+    const arm = place.standing?.arms.get(number), isNow = place.awaits.has(number);
     const arms = node.sel.map(each => stack([transitionOf(each.when, place, isNow), part(each.then, known, place)], 0));
     return branches(arms, false, arm === undefined ? null : node.sel.map((_, k) => (k === arm ? "taken" : "dim")));
   }

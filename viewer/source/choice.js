@@ -2,9 +2,18 @@
 // fit. Knows nothing of how they are shown.
 "use strict";
 const choice = (() => {
+  // What only answers can tell.
+  const BY_ANSWERS = new Set(["noRefusal", "noAlarm", "noWait"]);
   class Choice {
     constructor(history) { Object.assign(this, { history, batch: "", tag: "", rule: "" }); }
     get isAll() { return this.batch === "" && this.tag === "" && this.rule === ""; }
+    // What is said where nothing is there, as a key of the labels: the given one, where the files can tell.
+    none(key) {
+      const { assumed, isBlind } = this.history;
+      if (!this.isAll && key !== "noWait") return "noMatch";
+      if (assumed && BY_ANSWERS.has(key)) return "noAnswer";
+      return isBlind && key !== "noRefusal" ? "noJournal" : key;
+    }
     // In words, for the paper.
     get told() {
       const parts = [["batch", this.batch], ["module", this.tag], ["rule", this.rule]];

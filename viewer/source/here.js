@@ -3,7 +3,7 @@
 "use strict";
 const here = (() => {
   const { make } = tables;
-  const isRefused = answer => Boolean(answer) && ("refused" in answer || "bad" in answer);
+  const isRefused = answer => Boolean(answer) && ["refused", "bad", "denied"].some(key => key in answer);
   const note = (key, text) => (text ? make("p", { class: "note" }, make("b", {}, `${words.say(key)}: `), text) : null);
   // The docs' words behind an answer.
   function behind(event, answer) {
@@ -14,6 +14,9 @@ const here = (() => {
         : [make("p", { class: "note" }, words.say("noWords"))];
     }
     if ("bad" in answer) return [make("p", { class: "note" }, words.say("badLine"))];
+    if ("denied" in answer) {
+      return [make("p", { class: "note" }, words.say(answer.policy === undefined ? "deniedByNoneMore" : "deniedMore"))];
+    }
     if ("wait" in answer) {
       const wait = words.wait(answer.wait, answer), forbid = answer.by ? words.word("forbids", answer.by) : null;
       return [note("waitsFor", wait?.for), note("lookAt", wait?.look),
@@ -43,7 +46,8 @@ const here = (() => {
   }
   function entry(holder, found, history, view) {
     const at = view.cursor, [event, answer] = found.entry(at), stamp = event?.at;
-    const place = [words.say("entryOf", words.number(at + 1), words.number(view.count)),
+    const key = history.entries === view.count ? "entryOf" : "answerOf";
+    const place = [words.say(key, words.number(at + 1), words.number(view.count)),
       words.say("atLine", words.number(found.line(at)))];
     if (stamp !== undefined) place.push(words.stamp(stamp));
     const kindOf = (tag, name) => history.kindAt(tag, name, at);
@@ -61,34 +65,6 @@ const here = (() => {
     const name = history.names[at], hold = history.modules.get(history.tags[at])?.hold, span = hold?.span(at) ?? -1;
     return name ?? (span >= 0 && hold.style[span] === "held" ? hold.text[span] : null);
   }
-  // Where a batch stands at an entry, and how its conditions' values are said then.
-  function place(history, batch, at) {
-    const kindOf = test => (batch ? history.kindAt(batch.tagOf(test.role), test.name ?? test.test, at) : undefined);
-    const isReached = batch !== null && at >= batch.started;
-    const isEnded = isReached && batch.ended !== null && batch.ended <= at, isOpen = isReached && !isEnded;
-    return {
-      isReached, isOpen, isDone: isEnded && batch.outcome === "Completed",
-      standing: isReached ? batch.standing(at) : null, wait: isOpen ? batch.waitAt(at) : null,
-      said: test => words.value(test.value, kindOf(test)),
-      now: condition => nowOf(history, batch, condition, at, kindOf),
-      title: node => title(history, batch, node, at),
-    };
-  }
-  // A step with its procedure and settings.
-  function title(history, batch, node, at) {
-    const tag = batch?.tagOf(node.role), set = history.settings(batch, { ...node, tag }, at);
-    const procedure = words.say("procedureOf", node.procedure, `${node.service} @ ${tag ?? node.role}`);
-    return words.visible([`${node.step}: ${procedure}`, ...set].join(", "));
-  }
-  function nowOf(history, batch, condition, at, kindOf) {
-    const tests = new Map([...recipes.tests(condition)].map(test => [`${test.role}.${test.test}`, test]));
-    return [...tests].map(([key, test]) => {
-      const value = history.modules.get(batch.tagOf(test.role))?.series.get(test.test)?.known(at) ?? NaN;
-      const kind = kindOf(test), shown = kind === "BinView" ? String(Boolean(value)) : words.value(value, kind);
-      const told = Number.isNaN(value) ? words.say("unreported") : shown;
-      return tests.size === 1 ? words.say("nowIs", told) : `${key}: ${words.say("nowIs", told)}`;
-    });
-  }
   // A forged chart may have any form; then the place says so.
   function drawn(holder, known, standing) {
     try { chart.draw(holder, known, standing); } catch { holder.replaceChildren(words.say("unlike")); }
@@ -100,5 +76,5 @@ const here = (() => {
     parts.push(...batch.left.filter(({ step }) => phaseOf(step) === "left").map(words.left));
     return parts.filter(each => each).join(" · ");
   }
-  return { entry, batchOf, place, drawn, under, isRefused };
+  return { entry, batchOf, drawn, under, isRefused };
 })();

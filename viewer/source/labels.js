@@ -7,10 +7,12 @@ const labels = {
   open: ["Open files", "Dateien öffnen"],
   print: ["Print", "Drucken"],
   drop: ["Drop here what pol wrote", "Hier ablegen, was pol schrieb"],
-  dropMore: ["The output of the job plant, or a journal together with the output of its replay. The verdict of the "
-    + "job audit and the site may come along. The files stay on this machine.",
-    "Die Ausgabe von plant, oder ein Journal mit der Ausgabe seiner Wiedergabe (replay). Das Urteil von audit "
-    + "und die Anlage dürfen dabei sein. Die Dateien bleiben auf diesem Rechner."],
+  dropMore: ["The output of the job plant, or a journal together with the output of its replay or of the job guard. "
+    + "What the job find says, the verdict of the job audit and the site may come along. A pol.journal is read too. "
+    + "The files stay on this machine.",
+    "Die Ausgabe von plant, oder ein Journal mit der Ausgabe seiner Wiedergabe (replay) oder von guard. Was find sagt, "
+    + "das Urteil von audit und die Anlage dürfen dabei sein. Auch ein pol.journal wird gelesen. Die Dateien bleiben "
+    + "auf diesem Rechner."],
   notProved: ["This page is no part of what is proved. It draws what the files say and checks nothing.",
     "Diese Seite ist kein Teil dessen, was bewiesen ist. Sie zeichnet, was die Dateien sagen, und prüft nichts."],
   batches: ["Batches", "Chargen"], modules: ["Modules", "Module"], cursor: ["At the cursor", "Am Cursor"],
@@ -44,10 +46,12 @@ const labels = {
   nBatches: ["{0} batches", "{0} Chargen"], n1Batches: ["1 batch", "1 Charge"],
   nModules: ["{0} modules", "{0} Module"], n1Modules: ["1 module", "1 Modul"],
   nRefused: ["{0} refused", "{0} abgelehnt"], n1Refused: ["1 refused", "1 abgelehnt"],
+  nDenied: ["{0} denied", "{0} verweigert"], n1Denied: ["1 denied", "1 verweigert"],
   nBad: ["{0} lines at fault", "{0} fehlerhafte Zeilen"], n1Bad: ["1 line at fault", "1 fehlerhafte Zeile"],
   nTurns: ["{0} turns", "{0} Umläufe"], n1Turns: ["1 turn", "1 Umlauf"],
   nTimes: ["{0} times", "{0}-mal"], n1Times: ["once", "einmal"], nStamps: ["{0} stamps", "{0} Stempel"],
-  entryOf: ["entry {0} of {1}", "Eintrag {0} von {1}"], atLine: ["line {0}", "Zeile {0}"],
+  entryOf: ["entry {0} of {1}", "Eintrag {0} von {1}"],
+  answerOf: ["answered line {0} of {1}", "beantwortete Zeile {0} von {1}"], atLine: ["line {0}", "Zeile {0}"],
   more: ["{0} more", "{0} weitere"],
   // States of things.
   running: ["Running", "Running"], neverStarted: ["never started", "nie gestartet"], unknown: ["unknown", "unbekannt"],
@@ -57,6 +61,9 @@ const labels = {
   asked: ["asked by an operator", "vom Bediener verlangt"],
   operator: ["not for recipes (mode)", "nicht für Rezepte (Modus)"],
   logged: ["entry of the log", "Eintrag des Protokolls"],
+  // A batch's bars and its chart have these colours from the command on, before the service reports.
+  holding: ["Holding, Held, or asked to hold", "Holding, Held, oder soll halten"],
+  stopping: ["Stopping, Stopped, or asked to stop", "Stopping, Stopped, oder soll stoppen"],
   leftRunning: ["left running: go and look", "laufend verlassen: nachsehen"],
   leftIn: ["! {0} of {1} left in {2}", "! {0} von {1} in {2} verlassen"],
   node: ["arm or loop decided", "Zweig oder Schleife entschieden"],
@@ -66,6 +73,8 @@ const labels = {
   noRefusal: ["Nothing was refused.", "Nichts wurde abgelehnt."], noWait: ["It never waited.", "Sie wartete nie."],
   noMatch: ["Nothing fits what is chosen.", "Nichts passt zur Auswahl."],
   noRecipe: ["No recipe is known.", "Kein Rezept ist bekannt."],
+  noJournal: ["That stands in the journal, which isn't among the files.",
+    "Das steht im Journal, und das ist nicht unter den Dateien."],
   starred: ["for another's sake", "wegen anderer"],
   badLine: ["The line is no event; it isn't in the history. Mend what is told at the path.",
     "Die Zeile ist kein Ereignis und steht nicht in der Historie. Zu berichtigen ist, was am Pfad genannt ist."],
@@ -82,12 +91,21 @@ const labels = {
   closedAs: ["closed as {0}", "geschlossen als {0}"],
   openBatch: ["batch {0} is still running at the end", "Charge {0} läuft am Ende noch"],
   neverBatch: ["batch {0} never started", "Charge {0} wurde nie gestartet"],
-  deskPermitted: ["an operator asked {1} of {2} for {0}: permitted",
-    "Bediener verlangte {0} von {1} an {2}: erlaubt"],
-  deskRefused: ["an operator asked {1} of {2} for {0}: refused, {3}",
-    "Bediener verlangte {0} von {1} an {2}: abgelehnt, {3}"],
-  deskUnknown: ["an operator asked {1} of {2} for {0}; no answer is known",
-    "Bediener verlangte {0} von {1} an {2}; keine Antwort ist bekannt"],
+  anOperator: ["an operator", "Bediener"],
+  deskPermitted: ["{4:who} asked {1} of {2} for {0}: permitted",
+    "{4:who} verlangte {0} von {1} an {2}: erlaubt"],
+  deskRefused: ["{4:who} asked {1} of {2} for {0}: refused, {3}",
+    "{4:who} verlangte {0} von {1} an {2}: abgelehnt, {3}"],
+  deskDenied: ["{4:who} asked {1} of {2} for {0}: denied by the policy's rule {3}",
+    "{4:who} verlangte {0} von {1} an {2}: verweigert von der Regel {3} der Richtlinie"],
+  deskDeniedByNone: ["{4:who} asked {1} of {2} for {0}: denied, no rule of the policy allows it",
+    "{4:who} verlangte {0} von {1} an {2}: verweigert, keine Regel der Richtlinie erlaubt es"],
+  deskBad: ["{4:who} asked {1} of {2} for {0}, in a line at fault",
+    "{4:who} verlangte {0} von {1} an {2}, in einer fehlerhaften Zeile"],
+  deskOdd: ["{4:who} asked {1} of {2} for {0}; the answer says neither permitted nor refused",
+    "{4:who} verlangte {0} von {1} an {2}; die Antwort sagt weder erlaubt noch abgelehnt"],
+  deskUnknown: ["{4:who} asked {1} of {2} for {0}; no answer is known",
+    "{4:who} verlangte {0} von {1} an {2}; keine Antwort ist bekannt"],
   exchangedIn: ["{0} was exchanged while batch {1} had it", "{0} wurde getauscht, während Charge {1} es hatte"],
   exchangedWatched: ["{0} was exchanged while batch {1} watched it",
     "{0} wurde getauscht, während Charge {1} es beobachtete"],
@@ -104,18 +122,33 @@ const labels = {
     "zwischen den Einträgen {0} und {1} fehlen Stempel: {2}, {3}"],
   stampsPause: ["far longer than usual nothing stands between entries {0} and {1}: {2}, {3}",
     "zwischen den Einträgen {0} und {1} steht weit länger als sonst nichts: {2}, {3}"],
-  auditHere: ["the audit stops here, {0}: the answer should be {1}", "das Audit endet hier, {0}: richtig wäre {1}"],
+  auditHere: ["the audit stops here, {0}: the answer should be {1:answer}",
+    "das Audit endet hier, {0}: richtig wäre {1:answer}"],
   // Audit.
   notAudited: ["not audited", "nicht geprüft"], auditGood: ["audit: good", "Audit: gut"],
   auditBad: ["audit: wrong", "Audit: falsch"],
-  sealMore: ["as the verdict line says; this page checks nothing", "laut der Urteilszeile; diese Seite prüft nichts"],
+  sealMore: ["as the verdict line says, which names no file; this page checks nothing",
+    "laut der Urteilszeile, die keine Datei nennt; diese Seite prüft nichts"],
+  namesNoFile: ["The verdict names no file: whoever signs has to know that it is of this one.",
+    "Das Urteil nennt keine Datei: wer unterschreibt, muss wissen, dass es dieser gilt."],
   sealMissing: ["no verdict of the job audit stands in the files", "in den Dateien steht kein Urteil von audit"],
   goodWords: ["The job audit found {0} entries true: each answer is the one that looking back in the history gives, "
     + "and the batch lines follow.",
     "audit fand {0} Einträge wahr: jede Antwort ist die, die der Blick zurück in die Historie ergibt, und "
     + "die Zeilen der Chargen folgen."],
-  otherLength: ["The verdict is of {0} entries, the file has {1}.",
-    "Das Urteil gilt für {0} Einträge, die Datei hat {1}."],
+  otherLength: ["A verdict of {0} came along; here are {1}. It is of another file, and isn't shown.",
+    "Ein Urteil über {0} ist dabei; hier sind {1}. Es gilt einer anderen Datei und wird nicht gezeigt."],
+  otherPlace: ["A verdict came along that finds entry {0} wrong; here are {1}. It is of another file, and isn't shown.",
+    "Ein Urteil ist dabei, nach dem Eintrag {0} falsch ist; hier sind {1}. Es gilt einer anderen Datei und wird nicht "
+    + "gezeigt."],
+  otherAnswer: ["A verdict came along that finds the answer of entry {0} wrong; here that answer is what it should be. "
+    + "It is of another file, and isn't shown.",
+    "Ein Urteil ist dabei, nach dem die Antwort von Eintrag {0} falsch ist; hier ist sie die richtige. Es gilt einer "
+    + "anderen Datei und wird nicht gezeigt."],
+  otherKind: ["A verdict came along, but no history with its events and answers; it isn't shown.",
+    "Ein Urteil ist dabei, aber keine Historie mit ihren Ereignissen und Antworten; es wird nicht gezeigt."],
+  otherVerdict: ["A verdict came along that isn't of the form that pol writes; it isn't shown.",
+    "Ein Urteil ist dabei, das nicht von der Form ist, die pol schreibt; es wird nicht gezeigt."],
   whyAnswer: ["the answer isn't the one that the entries before it give",
     "die Antwort ist nicht die, die die Einträge davor ergeben"],
   whyTooMany: ["there are more entries than an audit takes", "es sind mehr Einträge, als ein Audit annimmt"],
@@ -128,6 +161,27 @@ const labels = {
     + "their replay along to see what pol answered.",
     "Die Dateien enthalten Ereignisse ohne Antworten. Sie sind gezeichnet, als wäre jedes angenommen worden; die "
     + "Ausgabe ihrer Wiedergabe zeigt, was pol antwortete."],
+  noEvents: ["The files hold answers without their events: what was refused is listed. Put the journal along to see "
+    + "modules and batches.",
+    "Die Dateien enthalten Antworten ohne ihre Ereignisse: was abgelehnt wurde, ist aufgeführt. Mit dem Journal dabei "
+    + "sind auch Module und Chargen zu sehen."],
+  kept: ["{0} is the file of a kept plant, with {1}. The job export makes a journal of it, and a replay of that the "
+    + "answers.",
+    "{0} ist die Datei einer gespeicherten Anlage, mit {1}. export macht daraus ein Journal, und dessen Wiedergabe "
+    + "(replay) die Antworten."],
+  nEvents: ["{0} events", "{0} Ereignissen"], n1Events: ["1 event", "1 Ereignis"],
+  keptEmpty: ["{0} is the file of a kept plant, without events.",
+    "{0} ist die Datei einer gespeicherten Anlage, ohne Ereignisse."],
+  keptBroken: ["{0}: behind event {1}, from byte {2} on, it isn't a file that the job keep writes.",
+    "{0}: hinter Ereignis {1}, ab Byte {2}, ist es keine Datei, die keep schreibt."],
+  summary: ["the counts of a demo journal; there is nothing in it to draw",
+    "die Zählung eines demo-Journals; darin ist nichts zu zeichnen"],
+  oddAnswers: ["answers that can't be of their events: {0}, the first at {1}; the files don't belong together, or one "
+    + "was changed",
+    "Antworten, die nicht zu ihren Ereignissen gehören können: {0}, die erste bei {1}; die Dateien gehören nicht "
+    + "zusammen, oder eine wurde geändert"],
+  manyEnds: ["{0} end lines: the files hold several outputs, which are drawn one behind another",
+    "{0} Endzeilen: die Dateien enthalten mehrere Ausgaben, die hintereinander gezeichnet sind"],
   noEnd: ["the end line is missing: the output is cut", "die Endzeile fehlt: die Ausgabe ist abgeschnitten"],
   nothing: ["no line that pol writes stands in the files", "keine Zeile, die pol schreibt, steht in den Dateien"],
   faultLine: ["{0}, line {1}: {2}", "{0}, Zeile {1}: {2}"], notJson: ["no JSON", "kein JSON"],
@@ -147,6 +201,33 @@ const labels = {
   atEndMissing: ["At the end no module is plugged as {0}.", "Am Ende ist kein Modul als {0} gesteckt."],
   atEndNotIdle: ["At the end {0} of {1} is in {2}.", "Am Ende ist {0} von {1} in {2}."],
   atEndSilent: ["At the end {0} of {1} is unreported.", "Am Ende ist {0} von {1} ungemeldet."],
+  // What a policy denied.
+  denied: ["denied", "verweigert"], policy: ["policy", "Richtlinie"],
+  deniedBy: ["denied by the policy's rule {0}", "verweigert von der Regel {0} der Richtlinie"],
+  deniedByNone: ["denied: no rule of the policy allows it", "verweigert: keine Regel der Richtlinie erlaubt es"],
+  deniedMore: ["This rule of the policy denies it, so the plant never saw the command and it isn't in the history. "
+    + "Who may give it, the policy says.",
+    "Diese Regel der Richtlinie verweigert es; die Anlage sah den Befehl nie, und er steht nicht in der Historie. Wer "
+    + "ihn geben darf, sagt die Richtlinie."],
+  deniedByNoneMore: ["No rule of the policy allows it, so the plant never saw the command and it isn't in the "
+    + "history. Who may give it, the policy says.",
+    "Keine Regel der Richtlinie erlaubt es; die Anlage sah den Befehl nie, und er steht nicht in der Historie. Wer ihn "
+    + "geben darf, sagt die Richtlinie."],
+  inPolicy: ["in the policy: {0}", "in der Richtlinie: {0}"], everybody: ["everybody", "alle"],
+  service: ["Service", "Dienst"],
+  askedFor: ["asked by {0}", "verlangt von {0}"], who: ["Who", "Wer"],
+  // What the job find says.
+  finder: ["Which modules are left for a recipe", "Welche Module für ein Rezept übrig sind"],
+  bindable: ["A new batch could have", "Eine neue Charge könnte haben"],
+  shortOnly: ["too few modules for {0}: only {1} left", "zu wenige Module für {0}: nur noch {1}"],
+  shortNone: ["too few modules for {0}: none left", "zu wenige Module für {0}: keines mehr"],
+  finderNone: ["No recipe was known.", "Kein Rezept war bekannt."],
+  finderBad: ["Lines of its journal that were at fault: {0}", "Fehlerhafte Zeilen ihres Journals: {0}"],
+  finderCut: ["its end line is missing: the output is cut", "die Endzeile fehlt: die Ausgabe ist abgeschnitten"],
+  finderMore: ["As the job find says, of the end of the journal that it read; this page checks nothing. A role of "
+    + "which only values are read may be watched instead of bound.",
+    "Laut find, am Ende des Journals, das es las; diese Seite prüft nichts. Eine Rolle, von der nur Werte gelesen "
+    + "werden, darf auch beobachtet statt belegt werden."],
   // What stands still.
   still: ["What waits or stands still at the end", "Was am Ende wartet oder stillsteht"],
   lastDid: ["last: {0}", "zuletzt: {0}"], started: ["started", "gestartet"],
@@ -156,6 +237,17 @@ const labels = {
   askOn: ["asked last at entry {0}: ask again", "zuletzt gefragt bei Eintrag {0}: neu fragen"],
   askFirst: ["not asked since its start: ask", "seit dem Start nicht gefragt: fragen"],
   nReports: ["{0} reports", "{0} Meldungen"], n1Reports: ["1 report", "1 Meldung"],
+  // Each branch that isn't through: what the chart has there, and what was reported last.
+  lastReported: ["{0} of {1} was reported last in {2}", "{0} von {1} wurde zuletzt in {2} gemeldet"],
+  notReported: ["{0} of {1} wasn't reported since it was docked", "{0} von {1} wurde seit dem Andocken nicht gemeldet"],
+  isAway: ["{0} is in exchange", "{0} ist im Tausch"],
+  chartHas: ["in the chart: {0}", "im Plan: {0}"],
+  lastValue: ["{0} was reported last as {1}", "{0} wurde zuletzt mit {1} gemeldet"],
+  noValue: ["{0} wasn't reported since it was docked", "{0} wurde seit dem Andocken nicht gemeldet"],
+  notEnabled: ["that report doesn't enable {0}", "diese Meldung gibt {0} nicht frei"],
+  armOpen: ["no arm of node {0} is chosen yet", "noch kein Zweig von Knoten {0} ist gewählt"],
+  loopOpen: ["all in loop {0} is through: it turns or is left",
+    "alles in Schleife {0} ist zu Ende: sie läuft noch einmal oder wird verlassen"],
   // The page to sign.
   signTitle: ["Record of what happened", "Protokoll des Geschehens"],
   signWhat: ["Files", "Dateien"], signSpan: ["First and last stamp", "Erster und letzter Stempel"],
@@ -166,6 +258,7 @@ const labels = {
   signVerdict: ["Verdict", "Urteil"], signName: ["Name", "Name"], signDate: ["Date", "Datum"],
   signed: ["Signature", "Unterschrift"],
   signNoSum: ["this browser gives no checksum", "dieser Browser gibt keine Prüfsumme"],
+  signAll: ["In the files: {0}", "In den Dateien: {0}"],
   signOnly: ["Shown is only what was chosen: {0}.", "Gezeigt ist nur, was ausgewählt war: {0}."],
   signMoreBatches: ["Charts and logs of {0} further batches aren't on paper: choose a batch and print again.",
     "Pläne und Protokolle von {0} weiteren Chargen stehen nicht auf dem Papier: eine Charge auswählen und erneut "
@@ -190,14 +283,15 @@ const labels = {
   thaw: ["batch {batch} is to go on", "Charge {batch} soll weiterlaufen"],
   stop: ["batch {batch} is to stop", "Charge {batch} soll stoppen"],
   abandon: ["batch {batch} is to be abandoned", "Charge {batch} soll aufgegeben werden"],
-  desk: ["an operator asks {service} of {tag} for {CommandOp:command}",
-    "Bediener verlangt {CommandOp:command} von {service} an {tag}"],
+  desk: ["{by:who} asks {service} of {tag} for {CommandOp:command}",
+    "{by:who} verlangt {CommandOp:command} von {service} an {tag}"],
   exchange_begin: ["{tag} is to be exchanged", "{tag} soll getauscht werden"],
   exchange_end: ["{tag} is back under ticket {ticket}: {desc.type} {desc.version}",
     "{tag} ist zurück unter Ticket {ticket}: {desc.type} {desc.version}"],
   exchange_cancel: ["the exchange of {tag} under ticket {ticket} is cancelled",
     "der Tausch von {tag} unter Ticket {ticket} wird abgesagt"],
   noEvent: ["no event", "kein Ereignis"],
+  eventMissing: ["its line isn't among the files", "die Zeile dazu ist nicht unter den Dateien"],
   // Entries of the log.
   didStart: ["Start is asked for: {service} of {tag}, procedure {procedure} (step {step})",
     "Start wird verlangt: {service} von {tag}, Prozedur {procedure} (Schritt {step})"],
@@ -228,7 +322,8 @@ const labels = {
   byNothing: ["nothing", "nichts"],
   procedureOf: ["procedure {0} of {1}", "Prozedur {0} von {1}"],
   // Phases of a step.
-  phase_on: ["runs", "läuft"], phase_ending: ["asked to reset", "soll zurücksetzen"],
+  phase_on: ["runs", "läuft"], phase_finish: ["asked to complete", "soll abschließen"],
+  phase_ending: ["asked to reset", "soll zurücksetzen"],
   phase_held: ["asked to hold", "soll halten"],
   phase_done: ["ended", "zu Ende"], phase_off: ["asked to stop", "soll stoppen"],
   phase_left: ["left running: go and look", "laufend verlassen: nachsehen"],

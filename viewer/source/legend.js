@@ -4,7 +4,7 @@ const legend = (() => {
   const WIDE = 22, TALL = 16;
   const BARS = [["idle", "Idle"], ["move", "Starting, Completing, Resetting …"], ["run", "Execute"],
     ["full", "Completed"],
-    ["pause", "Pausing, Paused"], ["hold", "Holding, Held"], ["stop", "Stopping, Stopped"],
+    ["pause", "Pausing, Paused"], ["hold", "holding"], ["stop", "stopping"],
       ["abort", "Aborting, Aborted"]];
   const SPANS = [["unreported", "unreported"], ["held", "held"], ["watch", "watching"], ["away", "away"],
     ["wait", "waiting"], ["mode", "operator"]];
@@ -25,7 +25,7 @@ const legend = (() => {
   const marked = kind => sign(g => paint.mark(g, kind, WIDE / 2, kind === "log" ? -2 : -1, TALL, 0));
   function fill(holder) {
     const item = (drawn, text) => tables.make("span", {}, drawn, text);
-    holder.replaceChildren(...BARS.map(([style, name]) => item(barred(style), name)),
+    holder.replaceChildren(...BARS.map(([style, name]) => item(barred(style), words.say(name))),
       ...SPANS.map(([style, key]) => item(barred(style), words.say(key))),
         ...MARKS.map(([kind, key]) => item(marked(kind), words.say(key))));
   }

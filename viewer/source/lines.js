@@ -4,7 +4,7 @@
 "use strict";
 const lines = (() => {
   const SLICE = 5000;
-  const ANSWERS = ["done", "ticket", "did", "wait", "closed", "refused", "bad"];
+  const ANSWERS = ["done", "ticket", "did", "wait", "closed", "refused", "bad", "denied"];
   const isObject = value => typeof value === "object" && value !== null && !Array.isArray(value);
   function parsed(text) { try { return JSON.parse(text); } catch { return undefined; } }
   // Whole numbers that a browser can't hold are read by their digits, as whole numbers of any size.
@@ -23,55 +23,83 @@ const lines = (() => {
     if ("ev" in value) return "event";
     if ("audit" in value) return "verdict";
     if (value.end === true) return "end";
+    if ("answers" in value) return "summary";
     if (Array.isArray(value.log) && "outcome" in value) return "batch";
     if (Array.isArray(value.modules) && Array.isArray(value.batches)) return "site";
+    if (Array.isArray(value.groups) && Array.isArray(value.rules)) return "policy";
+    if ("recipe" in value && (isObject(value.bind) || Array.isArray(value.short))) return "binding";
     return ANSWERS.some(key => key in value) ? "answer" : "fault";
   }
-  const OUTPUT = new Set(["answer", "batch", "end", "verdict"]);
+  const OUTPUT = new Set(["answer", "batch", "binding", "end", "verdict"]);
   // Columns of places: an entry's event and its answer stand in a file from one sign to another, in a line.
   class Places {
     constructor() { Object.assign(this, { file: [], from: [], to: [], line: [] }); }
     get length() { return this.file.length; }
     put(file, from, to, line) { this.file.push(file); this.from.push(from); this.to.push(to); this.line.push(line); }
+    insert(k, place) { [this.file, this.from, this.to, this.line].forEach((list, n) => list.splice(k, 0, place[n])); }
     raw(files, k) { return files[this.file[k]].text.slice(this.from[k], this.to[k]); }
   }
-  // What was found in the files. Entries are either whole lines, or an event's line and its answer's.
+  // What was found in the files. Entries are either whole lines, or an event's line and its answer's; where no event
+  // came along, the answers alone. A finder is what the job find says: a row for each recipe, and how many lines of its
+  // journal were at fault.
   class Found {
     constructor(files) {
       Object.assign(this, { files, whole: new Places(), events: new Places(), answers: new Places(), batches: [],
-        faults: [],
-        verdict: null, site: null, ended: false });
+        faults: [], verdicts: [], policy: null, finder: null, site: null, ends: 0 });
     }
-    get length() { return this.whole.length + this.events.length; }
+    get length() { return this.whole.length + this.lead.length; }
     get hasAnswers() { return this.whole.length > 0 || this.answers.length > 0; }
-    // The event and the answer of an entry. An event is null where its line is none.
+    get hasEvents() { return this.whole.length > 0 || this.events.length > 0; }
+    get lead() { return this.events.length ? this.events : this.answers; }
+    // The event and the answer of an entry. An event is null where its line is none, and undefined where it didn't come
+    // along.
     entry(k) {
       if (k < this.whole.length) {
         const entry = exact(this.whole.raw(this.files, k));
         return [entry.event, entry.answer];
       }
-      const own = k - this.whole.length, event = exact(this.events.raw(this.files, own));
+      const own = k - this.whole.length;
       const answer = own < this.answers.length ? exact(this.answers.raw(this.files, own)) : null;
+      if (own >= this.events.length) return [undefined, answer];
+      const event = exact(this.events.raw(this.files, own));
       return [kindOf(event) === "event" ? event : null, answer];
     }
-    // The lines of an entry as they stand in the files, and the number of the first.
+    // The lines of an entry as they stand in the files.
     raw(k) {
       if (k < this.whole.length) return [this.whole.raw(this.files, k)];
-      const own = k - this.whole.length, told = [this.events.raw(this.files, own)];
-      return own < this.answers.length ? [...told, this.answers.raw(this.files, own)] : told;
+      const own = k - this.whole.length;
+      return [this.events, this.answers].filter(each => own < each.length).map(each => each.raw(this.files, own));
     }
-    line(k) { return k < this.whole.length ? this.whole.line[k] : this.events.line[k - this.whole.length]; }
+    // The number of an entry's first line, and the name of its file.
+    line(k) { return k < this.whole.length ? this.whole.line[k] : this.lead.line[k - this.whole.length]; }
     fileOf(k) {
-      return this.files[k < this.whole.length ? this.whole.file[k] : this.events.file[k - this.whole.length]].name;
+      return this.files[k < this.whole.length ? this.whole.file[k] : this.lead.file[k - this.whole.length]].name;
     }
     fault(file, line, why) { this.faults.push({ file: this.files[file].name, line, why }); }
+    // A policy is no event and has no answer. Where there is an answer more than events, it was read as an event, as a
+    // replay does.
+    settle() {
+      if (this.policy === null || this.answers.length !== this.events.length + 1) return;
+      this.events.insert(this.policy.before, this.policy.place);
+      this.policy = null;
+    }
+    // The rules of the policy by their names.
+    get rules() {
+      if (this.policy === null) return new Map();
+      const [file, from, to] = this.policy.place, { rules } = parsed(this.files[file].text.slice(from, to));
+      return new Map(rules.filter(isObject).map(rule => [rule.name, rule]));
+    }
+    bound(row) {
+      this.finder ??= { rows: [], bad: null };
+      if (kindOf(row) === "binding") this.finder.rows.push(row); else this.finder.bad = row.bad;
+    }
   }
   // Does a file begin as a journal? Lines at fault don't tell; where no line tells, it is one if it came with another
   // file.
   function isJournal(text, alone) {
     for (let from = 0; from < text.length;) {
       const to = lineEnd(text, from), kind = kindOf(parsed(text.slice(from, to)));
-      if (kind !== "fault") return kind === "event";
+      if (kind !== "fault") return kind === "event" || kind === "policy";
       from = to + 1;
     }
     return !alone;
@@ -87,23 +115,27 @@ const lines = (() => {
   // Puts a line where it belongs. In a journal each line that isn't blank has an answer, also one that is no event.
   function sort(found, file, from, to, line, journal) {
     const value = parsed(found.files[file].text.slice(from, to)), kind = kindOf(value);
+    const isPolicy = journal.on && kind === "policy" && !journal.begun;
+    journal.begun = true;
     if (journal.on && journal.alone && OUTPUT.has(kind)) journal.on = false;
     if (kind === "site") found.site = value;
+    else if (isPolicy) found.policy = { before: found.events.length, place: [file, from, to, line] };
     else if (journal.on) found.events.put(file, from, to, line);
     else if (kind === "entry") found.whole.put(file, from, to, line);
     else if (kind === "event") found.events.put(file, from, to, line);
     else if (kind === "answer") found.answers.put(file, from, to, line);
     else if (kind === "batch") found.batches.push(value);
-    else if (kind === "end") found.ended = true;
-    else if (kind === "verdict") found.verdict = value;
-    else found.fault(file, line, value === undefined ? "notJson" : "unknownForm");
+    else if (kind === "binding" || (kind === "end" && "bad" in value)) found.bound(value);
+    else if (kind === "end") found.ends += 1;
+    else if (kind === "verdict") found.verdicts.push(value);
+    else found.fault(file, line, kind === "summary" ? kind : value === undefined ? "notJson" : "unknownForm");
   }
   async function read(files, progress) {
     const found = new Found(files), size = files.reduce((sum, file) => sum + file.text.length, 0),
       alone = files.length === 1;
     let before = 0;
     for (let file = 0; file < files.length; file += 1) {
-      const { text } = files[file], journal = { on: isJournal(text, alone), alone };
+      const { text } = files[file], journal = { on: isJournal(text, alone), alone, begun: false };
       for (let at = 0, line = 1; at < text.length; line += 1) {
         const end = lineEnd(text, at), [from, to] = trimmed(text, at, end);
         if (from < to) sort(found, file, from, to, line, journal);
@@ -112,6 +144,7 @@ const lines = (() => {
       }
       before += text.length;
     }
+    found.settle();
     return found;
   }
   const pause = () => new Promise(done => setTimeout(done));

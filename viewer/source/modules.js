@@ -14,16 +14,24 @@ const modules = (() => {
     constructor(name, tag) {
       this.lane = new spans.Lane("service", name); this.lane.owner = tag;
       this.state = this.lane.track("state"); this.mode = this.lane.track("mode"); this.code = null;
+      // Which commands it enabled, where that changed.
+      this.masks = new spans.Series();
     }
     // A report. Says the new state's name where it is another than before.
     report(at, event) {
       const name = nameOf(event.StateCur), isNew = this.code !== event.StateCur;
       if (isNew) this.state.open(at, STYLES[name] ?? "unreported", name);
       this.code = event.StateCur;
+      if (this.masks.last !== event.CommandEn) this.masks.put(at, event.CommandEn);
       const forRecipes = event.Mode === "Automatic" && event.Src === "External";
       if (forRecipes) this.mode.close(at);
       else if (!this.mode.isOpen()) this.mode.open(at, "mode", `${event.Mode}, ${event.Src}`);
       return isNew ? name : null;
+    }
+    // What was reported last, at an entry: the state's name, null where it is unreported; the mode where it isn't for
+    // recipes; and the commands that it enabled.
+    last(at) {
+      return { state: this.state.textAt(at) || null, mode: this.mode.textAt(at), mask: this.masks.known(at) };
     }
     begin(at) { this.code = null; this.state.open(at, "unreported", ""); }
     close(at) { this.state.close(at); this.mode.close(at); }

@@ -4,15 +4,17 @@
 const opening = (() => {
   const SLICE = 5000;
   const hex = bytes => [...new Uint8Array(bytes)].map(byte => byte.toString(16).padStart(2, "0")).join("");
-  // A file's text, with its size and its checksum where the browser gives one.
+  // A file's text, with its size and its checksum where the browser gives one. Of a kept file it is the lines of its
+  // events.
   async function textOf(file) {
     const bytes = await file.arrayBuffer(), subtle = globalThis.crypto?.subtle;
     const digest = subtle ? await subtle.digest("SHA-256", bytes).catch(() => null) : null;
-    const text = new TextDecoder("utf-8", { ignoreBOM: true }).decode(bytes);
-    return { name: file.name, size: bytes.byteLength, sum: digest && hex(digest), text };
+    const own = kept.read(file.name, bytes), plain = new TextDecoder("utf-8", { ignoreBOM: true });
+    const text = own?.text ?? plain.decode(bytes);
+    return { name: file.name, size: bytes.byteLength, sum: digest && hex(digest), text, kept: own };
   }
   async function build(found, progress) {
-    const history = new past.History(!found.hasAnswers);
+    const history = new past.History(found);
     for (let at = 0; at < found.length; at += 1) {
       try {
         history.take(at, ...found.entry(at));
@@ -24,7 +26,8 @@ const opening = (() => {
         await lines.pause();
       }
     }
-    if (found.verdict?.audit === "bad" && found.verdict.place < found.length) history.doubt(found.verdict);
+    const verdict = verdicts.own(found, history);
+    if (verdict?.audit === "bad" && verdict.place < found.length) history.doubt(verdict);
     history.finish(found.site);
     return history;
   }

@@ -23,6 +23,7 @@ const page = (() => {
     state.trends = history.batches.size > 0 && trendLanes([...history.batches.values()]).length <= FEW_TRENDS;
     by("busy").hidden = true;
     by("main").hidden = false;
+    by("main").classList.toggle("bare", found.length === 0);
     by("names").textContent = found.files.map(file => words.visible(file.name)).join(", ");
     again();
     cursor();
@@ -63,13 +64,14 @@ const page = (() => {
     }
     by("time").classList.toggle("long", Object.values(panes).some(pane => pane.total > pane.holder.clientHeight + 1));
     by("none").hidden = own.length > 0;
-    by("none").textContent = words.say(chosen.isAll ? "noBatch" : "noMatch");
+    by("none").textContent = words.say(chosen.none("noBatch"));
     const rows = chosen.rows();
     entries.show(rows, state.found.length, said, view);
     by("rows").textContent = rows ? words.many("Entries", rows.length) : "";
     tables.batches(by("outcomes"), chosen, pick);
     tables.refusals(by("refused"), chosen, go, () => view.cursor);
     still();
+    finder();
     state.alarms = chosen.alarms();
     look(state.alarms.findIndex(each => each.at === view.cursor), true);
     told();
@@ -79,6 +81,11 @@ const page = (() => {
     const told = reasons.still(state.chosen);
     by("still").hidden = told.length === 0;
     tables.still(by("stillOf"), told, go, pick);
+  }
+  function finder() {
+    const { finder: own } = state.found;
+    by("finder").hidden = own === null;
+    by("finderOf").replaceChildren(...(own ? tables.finder(own).filter(part => part !== null) : []));
   }
   function said(at) {
     const { found, history } = state, [event, answer] = found.entry(at);
@@ -104,11 +111,12 @@ const page = (() => {
     words.visible(text));
   function choices() {
     const { chosen, history } = state, rules = new Set(history.rules.filter(rule => rule !== null));
-    const fill = (field, all, names, now) => by(field).replaceChildren(option("", words.say(all), now),
-      ...[...names].map(name => option(name, name === "bad" ? words.say("faults") : name, now)));
+    const shown = name => (name === "bad" ? words.say("faults") : words.refusedBy(name).name);
+    const fill = (field, all, names, now, said = name => name) => by(field).replaceChildren(
+      option("", words.say(all), now), ...[...names].map(name => option(name, said(name), now)));
     fill("chosenBatch", "allBatches", named(), chosen.batch);
     fill("chosenTag", "allModules", history.modules.keys(), chosen.tag);
-    fill("chosenRule", "allRules", rules, chosen.rule);
+    fill("chosenRule", "allRules", rules, chosen.rule, shown);
     by("clear").hidden = chosen.isAll;
   }
   function labelled() {
@@ -145,7 +153,7 @@ const page = (() => {
   function look(place, isNew) {
     if (state.alarm === place && !isNew) return;
     state.alarm = place;
-    tables.alarms(by("alarms"), state.alarms, go, place);
+    tables.alarms(by("alarms"), state.alarms, go, place, state.chosen.none("noAlarm"));
   }
   function cursor() {
     const { found, history, view } = state;
@@ -172,8 +180,8 @@ const page = (() => {
     const attempt = batch ? null : history.attempts.get(name) ?? null, names = named();
     by("which").replaceChildren(...names.map(each => option(each, each, name)));
     by("which").hidden = names.length === 0;
-    const any = batch ? null : history.recipes.get(attempt?.recipe) ?? history.recipes.values().next().value;
-    const known = batch?.known ?? any ?? null, standing = here.place(history, batch, view.cursor);
+    const any = attempt ? history.recipes.get(attempt.recipe) : history.recipes.values().next().value;
+    const known = (batch ? batch.known : any) ?? null, standing = stand.place(history, batch, view.cursor, known);
     const never = attempt ? `${attempt.recipe} · ${words.say("neverStarted")}` : known?.name ?? "";
     by("under").textContent = batch ? here.under(batch, standing) : never;
     if (known) here.drawn(by("chart"), known, standing);
@@ -183,9 +191,11 @@ const page = (() => {
     panes.batches.later();
   }
   function waits(batch, attempt) {
-    const { history } = state;
+    const { history, chosen } = state;
     by("waitsOf").hidden = !batch && !attempt;
-    if (batch) tables.waits(by("waits"), reasons.waited(batch, history), go, pick, history.stamps);
+    if (batch) {
+      tables.waits(by("waits"), reasons.waited(batch, history), go, pick, history.stamps, chosen.none("noWait"));
+    }
     if (!attempt) return;
     const told = reasons.never(attempt, history).map(text => make("li", {}, text));
     by("waits").replaceChildren(make("ul", {}, ...told));

@@ -20,26 +20,30 @@ const paper = (() => {
       make("span", { class: "sum" }, file.sum ? grouped(file.sum) : words.say("signNoSum"))]);
     return section("signWhat", cut(["file", "size", "checksum"], rows, "signWhat"));
   }
-  function span(found, history) {
-    const last = found.length - 1, ends = last < 0 ? [] : [found.entry(0)[0], found.entry(last)[0]];
+  function span(found, history, isAll) {
+    if (found.length === 0) return null;
+    const counts = seal.counts(history).join(" · ");
+    const ends = [found.entry(0)[0], found.entry(found.length - 1)[0]];
     const told = ends.map(event => (event?.at === undefined ? "–" : words.stamp(event.at))).join(" – ");
-    return make("p", { class: "span" }, seal.counts(history).join(" · "), make("br"),
+    return make("p", { class: "span" }, isAll ? counts : words.say("signAll", counts), make("br"),
       `${words.say("signSpan")}: ${told}`);
   }
   function desk(found, history, chosen) {
     const shown = history.desk.filter(at => chosen.fits(at, history.names[at], history.tags[at]));
-    if (!shown.length) return section("signDesk", tables.calm("signNoDesk"));
+    if (!shown.length) return section("signDesk", tables.calm(chosen.none("signNoDesk")));
+    const { people } = history, isNamed = shown.some(at => people.has(at));
     const rows = shown.map(at => {
-      const [event, answer] = found.entry(at);
-      const command = `${words.command(event.CommandOp)}: ${event.service}, ${event.tag}`;
+      const [event, answer] = found.entry(at), who = isNamed ? [tables.name(people.get(at) ?? "–")] : [];
+      const command = words.visible(`${words.command(event.CommandOp)}: ${event.service}, ${event.tag}`);
       const told = answer && "did" in answer ? words.say("permitted") : words.answer(answer);
-      return [words.number(at + 1), words.stamp(event.at), command, told];
+      return [words.number(at + 1), words.stamp(event.at), ...who, command, told];
     });
-    return section("signDesk", cut(["entry", "stamp", "command", "answer"], rows, "signDesk"));
+    const keys = ["entry", "stamp", ...(isNamed ? ["who"] : []), "command", "answer"];
+    return section("signDesk", cut(keys, rows, "signDesk"));
   }
   function exchanges(history, chosen) {
     const shown = history.exchanges.filter(each => chosen.fits(each.begun, each.batch, each.tag));
-    if (!shown.length) return section("signExchanges", tables.calm("signNoExchange"));
+    if (!shown.length) return section("signExchanges", tables.calm(chosen.none("signNoExchange")));
     const rows = shown.map(({ begun, ended, tag, before, after, batch, how }) => {
       const place = words.number(begun + 1) + (ended === null ? "" : ` – ${words.number(ended + 1)}`);
       return [place, tag, before ?? "–", how === "ended" ? after : words.say(how), batch ?? "–"];
@@ -51,27 +55,28 @@ const paper = (() => {
     const { history } = chosen, none = () => undefined, own = chosen.batches(), never = chosen.never();
     const rows = [...own.map(each => tables.batchRow(each, history, none)),
       ...never.map(each => tables.neverRow(each, none))];
-    if (!rows.length) return section("overview", tables.calm("noBatch"));
-    const running = reasons.still(chosen).map(({ name, text, since, again }) =>
-      [name, [[text, since, again].filter(each => each).join(" · ")]]);
-    const why = [...running, ...never.map(each => [each.name, reasons.never(each, history)])];
-    const told = ([name, list]) => make("p", { class: "why" }, make("b", {}, words.visible(name)),
-      `: ${list.join(" ")}`);
-    return section("overview", cut(tables.BATCH_KEYS, rows, "overview"),
-      ...why.filter(([, list]) => list.length).slice(0, MOST_ROWS).map(told));
+    if (!rows.length) return section("overview", tables.calm(chosen.none("noBatch")));
+    const running = reasons.still(chosen).map(({ name, text, since, again, branches }) =>
+      [name, [text, since, again].filter(each => each).join(" · "), branches]);
+    const why = [...running, ...never.map(each => [each.name, reasons.never(each, history).join(" "), []])];
+    const told = ([name, text, branches]) => make("div", { class: "why" }, make("b", {}, words.visible(name)),
+      `: ${text}`, ...branches.map(each => make("span", { class: "branch" }, each)));
+    return section("overview", cut(tables.BATCH_KEYS, rows, "overview"), ...why.slice(0, MOST_ROWS).map(told));
   }
   function refusals(chosen) {
     const found = [...chosen.refusals()].sort(([, one], [, two]) => two.length - one.length);
-    if (!found.length) return section("refusals", tables.calm("noRefusal"));
+    if (!found.length) return section("refusals", tables.calm(chosen.none("noRefusal")));
     return section("refusals", cut(["rule", "count", "remedy", "place"], found.map(([rule, places]) => {
       const more = places.length > 6 ? ` … (${words.say("more", words.number(places.length - 6))})` : "";
-      return [rule, words.number(places.length), words.rule(rule)?.remedy ?? words.say("badLine"),
+      const { name, remedy, holds } = words.refusedBy(rule);
+      const under = tables.below(rule, places, chosen.history).filter(each => each !== holds);
+      return [name, words.number(places.length), [remedy, ...under].join(" · "),
         places.slice(0, 6).map(at => words.number(at + 1)).join(", ") + more];
     }), "refusals"));
   }
   function alarms(chosen) {
     const list = chosen.alarms();
-    if (!list.length) return section("reviewer", tables.calm("noAlarm"));
+    if (!list.length) return section("reviewer", tables.calm(chosen.none("noAlarm")));
     return section("reviewer", cut(["entry", "what"], list.map(alarm => [words.number(alarm.at + 1),
       make("span", {}, ...tables.alarmTold(alarm))]), "reviewer"));
   }
@@ -79,13 +84,17 @@ const paper = (() => {
     const field = key => make("div", { class: "field" }, make("span", {}, words.say(key)));
     return make("div", { class: "signature" }, field("signName"), field("signDate"), field("signed"));
   }
+  const finder = ({ finder: own }) => (own ? section("finder", ...tables.finder(own)) : null);
+  // What is signed of a history; where the files have none, nothing of it is said.
+  const signedOf = (found, history, chosen, verdict) => (found.length === 0 ? [] : [
+    section("signVerdict", make("p", { class: `verdict ${verdict.style}` }, verdict.inWords)), batches(chosen),
+    refusals(chosen), desk(found, history, chosen), exchanges(history, chosen), alarms(chosen)]);
   function signPage(found, history, chosen, verdict) {
     const only = chosen.isAll ? null : make("p", { class: "only" }, words.say("signOnly", chosen.told));
     const doubts = seal.faults(found, history).slice(0, MOST_ROWS).map(text => make("p", { class: "why" }, text));
-    return make("article", { class: "sign" }, make("h1", {}, words.say("signTitle")), only, span(found, history),
-      files(found), doubts.length ? section("faults", ...doubts) : null,
-      section("signVerdict", make("p", { class: `verdict ${verdict.style}` }, verdict.inWords)), batches(chosen),
-      refusals(chosen), desk(found, history, chosen), exchanges(history, chosen), alarms(chosen), signature(),
+    return make("article", { class: "sign" }, make("h1", {}, words.say("signTitle")), only,
+      span(found, history, chosen.isAll), files(found), doubts.length ? section("faults", ...doubts) : null,
+      ...signedOf(found, history, chosen, verdict), finder(found), signature(),
       make("p", { class: "small" }, words.say("notProved")));
   }
   // Pictures of as many lanes as a page takes, of the whole history.
@@ -113,7 +122,7 @@ const paper = (() => {
   // Chart and log of a batch; more of the log where the batch alone is chosen.
   function figure(batch, found, history, isAlone) {
     const holder = make("div", { class: "drawn" }), { at } = batch.log, shown = at.slice(0, isAlone ? ALONE : MOST_LOG);
-    const end = batch.ended ?? history.stamps.length - 1, standing = here.place(history, batch, end);
+    const end = batch.ended ?? history.stamps.length - 1, standing = stand.place(history, batch, end, batch.known);
     if (batch.known) here.drawn(holder, batch.known, standing);
     const log = shown.map(each => make("li", { value: each + 1 }, history.answerTo(each, ...found.entry(each))));
     const left = at.length - log.length, more = left ? words.say("signMoreLog", words.number(left)) : "";
@@ -142,8 +151,9 @@ const paper = (() => {
       const made = sheets(pane);
       return made.length ? [make("h2", {}, words.say(pane.name)), ...made] : [];
     });
-    holder.replaceChildren(signPage(found, history, chosen, verdict), make("article", {}, ...pictures),
-      make("article", {}, ...figures(found, history, chosen)));
+    const more = [pictures, figures(found, history, chosen)].filter(each => each.length);
+    const articles = more.map(each => make("article", {}, ...each));
+    holder.replaceChildren(signPage(found, history, chosen, verdict), ...articles);
   }
   return { fill };
 })();

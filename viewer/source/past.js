@@ -3,7 +3,24 @@
 "use strict";
 const past = (() => {
   // In this order: a refusal may have the field ticket too, and a wait the field name.
-  const KINDS = ["refused", "bad", "wait", "did", "closed", "ticket", "done"];
+  const KINDS = ["refused", "bad", "denied", "wait", "did", "closed", "ticket", "done"];
+  // The rule by which an entry was refused: the plant's by its name alone, and what no rule of the plant refused with a
+  // word in front, which no name has.
+  const RULES = {
+    refused: ({ rule }) => String(rule), bad: ({ bad }) => `bad ${bad}`,
+    denied: ({ policy }) => (policy === undefined ? "denied" : `denied ${policy}`),
+  };
+  // Which answers an event may have where nothing refuses it; without a word here it is done.
+  const GIVES = { advance: ["did", "wait", "closed"], stop: ["did", "done"], desk: ["did"], abandon: ["closed"],
+    exchange_begin: ["ticket"] };
+  // Can these two stand together? Else they are of different files, or one was changed.
+  function isPair(event, kind) {
+    if (kind === "refused" || kind === "bad") return kind === "bad" || Boolean(event);
+    if (kind === "denied") return event?.ev === "desk";
+    return Boolean(event) && (Object.hasOwn(GIVES, event.ev) ? GIVES[event.ev] : ["done"]).includes(kind);
+  }
+  // What became of an operator's command, by what its answer has.
+  const DESK = { did: "deskPermitted", denied: "deskDenied", rule: "deskRefused", bad: "deskBad" };
   // What an event must have to be drawn; a forged one may lack it.
   const FIELDS = {
     plug: { tag: "string", desc: "object" }, unplug: { tag: "string" }, variable: { tag: "string", name: "string" },
@@ -17,13 +34,21 @@ const past = (() => {
   const fits = event => Object.entries(FIELDS[event.ev]).every(([key, kind]) => isOf(event[key], kind));
   const isNames = bind => isOf(bind, "object") && Object.values(bind).every(tag => typeof tag === "string");
   class History {
-    // Where the files have no answers, each event is assumed to be accepted.
-    constructor(assumed) {
-      Object.assign(this, { assumed, modules: new Map(), batches: new Map(), recipes: new Map(), refusals: new Map(),
-        attempts: new Map(), known: new Map(), alarms: [], desk: [], exchanges: [], never: [] });
+    // Where the files have no answers, each event is assumed to be accepted; where they have no events, nobody knows
+    // what became of a module or a batch.
+    constructor({ hasAnswers, hasEvents, whole, rules: policy }) {
+      Object.assign(this, { assumed: !hasAnswers, isBlind: !hasEvents, isOfPlant: whole.length > 0, modules: new Map(),
+        batches: new Map(), recipes: new Map(), refusals: new Map(), attempts: new Map(), known: new Map(),
+        people: new Map(), policy, alarms: [], desk: [], exchanges: [], never: [], odd: [] });
       // Of each entry: its stamp, the tag and the batch that it names, the rule that refused it.
       Object.assign(this, { stamps: [], tags: [], names: [], rules: [] });
-      this.counts = { lines: 0, done: 0, ticket: 0, did: 0, wait: 0, closed: 0, refused: 0, bad: 0, none: 0 };
+      this.counts = Object.fromEntries(["lines", "none", ...KINDS].map(kind => [kind, 0]));
+    }
+    // How many entries the history has: a line at fault is none, nor is a command that a policy denied, nor what a full
+    // history refused.
+    get entries() {
+      const { lines, bad, denied } = this.counts;
+      return lines - bad - denied - (this.refusals.get("HistoryFull")?.length ?? 0);
     }
     // A text that comes again and again is kept once.
     once(text) {
@@ -37,15 +62,17 @@ const past = (() => {
       this.counts.lines += 1; this.counts[kind] += 1;
       this.stamps.push(["number", "bigint"].includes(typeof event?.at) ? Number(event.at) : NaN);
       this.tags.push(this.once(event?.tag)); this.names.push(this.once(event?.batch));
-      this.rules.push(kind === "refused" ? this.once(String(answer.rule)) : kind === "bad" ? "bad" : null);
-      if (kind === "refused" || kind === "bad") this.refuse(at, event, answer);
+      if (event !== undefined && answer && !isPair(event, kind)) this.odd.push(at);
+      const isRefused = Object.hasOwn(RULES, kind), rule = isRefused ? this.once(RULES[kind](answer)) : null;
+      this.rules.push(kind === "bad" ? "bad" : rule);
+      if (typeof event?.by === "string") this.people.set(at, this.once(event.by));
+      if (isRefused) this.refuse(at, event, answer, rule);
       else if ((kind !== "none" || this.assumed) && event && Object.hasOwn(TAKES, event.ev)) {
         if (!fits(event)) throw new TypeError("an event without its fields");
         TAKES[event.ev](this, at, event, answer ?? {});
       }
     }
-    refuse(at, event, answer) {
-      const rule = answer.rule ?? `bad ${answer.bad}`;
+    refuse(at, event, answer, rule) {
       if (!this.refusals.has(rule)) this.refusals.set(rule, []);
       this.refusals.get(rule).push(at);
       if (event?.ev === "start" && typeof event.batch === "string") this.attempt(event, at, answer);
@@ -73,12 +100,12 @@ const past = (() => {
       return { name, recipe: String(recipe), bind: isNames(bind) ? bind : {}, lane, first: at, why: new Map() };
     }
     asked(at, event, answer) {
-      const isPermitted = "did" in answer, other = "rule" in answer ? "deskRefused" : "deskUnknown";
-      const command = words.command(event.CommandOp);
+      const how = Object.keys(DESK).find(key => key in answer), style = how === "did" ? "asked" : "refused";
+      const other = Object.keys(answer).length ? "deskOdd" : "deskUnknown", isNameless = answer.policy === undefined;
+      const key = how === "denied" && isNameless ? "deskDeniedByNone" : DESK[how] ?? other;
       this.desk.push(at);
-      const values = [command, event.service, event.tag, answer.rule];
-      const key = isPermitted ? "deskPermitted" : other, style = isPermitted ? "asked" : "refused";
-      this.alarm(at, style, { tag: event.tag }, key, ...values);
+      this.alarm(at, style, { tag: event.tag }, key, words.command(event.CommandOp), event.service, event.tag,
+        answer.rule ?? answer.policy, this.people.get(at));
     }
     // The batches that a module's news may let go on.
     waiting(module) {
@@ -131,7 +158,11 @@ const past = (() => {
     }
     // Where an audit found the first thing wrong.
     doubt({ place, why, says }) {
-      this.alarm(place, "abort", {}, "auditHere", String(why), says ? words.answer(says) : "?");
+      this.alarm(place, "abort", {}, "auditHere", String(why), says);
+    }
+    kindOfType(type, name) {
+      const last = [...this.modules.values()].map(({ docks }) => docks[docks.length - 1]);
+      return last.find(each => each?.type === type && each.kinds.has(name))?.kinds.get(name);
     }
     kindAt(tag, name, at) { return this.modules.get(tag)?.kindAt(name, at); }
     // The values by which a node decided, each with its variable's name and in its unit.

@@ -2,11 +2,17 @@
 // nothing of how they are shown.
 "use strict";
 const reasons = (() => {
+  // By whom its modules were held before a batch started, where it was to start by then: a plant tries each from the
+  // beginning on, and in a journal a start was refused before.
+  function before(batch, { isOfPlant, attempts }) {
+    const tried = isOfPlant ? 0 : attempts.get(batch.name)?.first ?? Infinity;
+    return batch.before.filter(({ to }) => to >= tried);
+  }
   // What stood in a batch's way before it started, and what it waited for since: a sentence each, with where it was
   // first.
   function waited(batch, history) {
     const told = [];
-    for (const { tag, batch: other, from, to } of batch.before) {
+    for (const { tag, batch: other, from, to } of before(batch, history)) {
       const text = words.say("beforeStart", tag, other, words.number(from + 1), words.number(to + 1));
       told.push({ text, at: from, other });
     }
@@ -48,17 +54,20 @@ const reasons = (() => {
     });
     return [...(told.length ? told : [words.say("noStart")]), ...atEnd(attempt.bind, history)];
   }
-  // Where each open batch stands once the history ends: what it waits for, or what it did last; since when; and, where
-  // asking once more may give another answer, when it was asked last. Without answers nobody knows.
+  // Where each open batch stands once the history ends: what it waits for, or what it did last; since when; where
+  // asking once more may give another answer, when it was asked last; and each branch that isn't through. Without
+  // answers nobody knows.
   const still = chosen => (chosen.history.assumed ? []
     : chosen.batches().filter(batch => batch.outcome === null).map(batch => standing(batch, chosen.history)));
   function standing(batch, history) {
     const at = batch.since, stamp = history.stamps[at], { did } = batch.log;
     const wait = batch.waitAt(history.stamps.length - 1), last = did[did.length - 1];
     const done = last ? words.answer({ did: last }) : words.say("started");
+    const end = history.stamps.length - 1;
     return { name: batch.name, at, text: wait ? words.answer(wait) : words.say("lastDid", done),
       since: words.say("since", words.number(at + 1), Number.isNaN(stamp) ? "" : ` (${words.stamp(stamp)})`),
-      again: batch.isToAsk ? again(batch) : "" };
+      again: batch.isToAsk ? again(batch) : "",
+      branches: awaited.told(batch, history, end, stand.place(history, batch, end, batch.known)) };
   }
   function again({ asked, heard }) {
     if (asked === null) return words.say("askFirst");

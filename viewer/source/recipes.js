@@ -1,5 +1,6 @@
 // A recipe's chart as a list of nodes in chart order, with the variables that each reads and the limits they are
-// compared with. Knows nothing of batches, and nothing of drawing. Throws where a forged chart has no form of a chart.
+// compared with, and what is in each loop. Knows nothing of batches, and nothing of drawing. Throws where a forged
+// chart has no form of a chart.
 "use strict";
 const recipes = (() => {
   const SIGNS = { lt: "<", le: "≤", eq: "=", ne: "≠", ge: "≥", gt: ">" };
@@ -41,6 +42,10 @@ const recipes = (() => {
       this.nodes = [...nodes(event.chart)];
       this.steps = new Map(this.nodes.filter(node => "step" in node).map(node => [node.step, node]));
       this.numbers = new Map(this.nodes.map((node, number) => [node, number]));
+      // Of each loop, by its number, what is in it: steps by their names, other nodes by their numbers.
+      const keyOf = node => node.step ?? this.numbers.get(node);
+      const loops = this.nodes.filter(node => !("step" in node) && node.loop);
+      this.within = new Map(loops.map(node => [this.numbers.get(node), [...nodes(node.loop)].map(keyOf)]));
       this.readsOf = this.nodes.map(node => variables(conditions(node).flatMap(each => [...tests(each)])));
       this.reads = variables(this.nodes.flatMap(node => conditions(node)).flatMap(each => [...tests(each)]));
     }

@@ -10,21 +10,32 @@ const runs = (() => {
   // What an entry of the log did. A step that could be left because its service is at rest is none that still runs.
   const deedOf = did => (did.do === "left" && modules.isAtRest(did.state) ? "rest" : did.do);
   const ENDS = { Completed: "full", Broken: "abort", Stopped: "stop", Abandoned: "stop" };
-  // Where a batch stands in its chart: phase and runs of each step, arm of each selection, turns of each loop.
+  // Where a batch stands in its chart: phase and runs of each step, and whether Complete was asked for; arm of each
+  // selection, turns of each loop. What is through has passed: steps by their names, selections that chose and loops
+  // that were left by their numbers. A further turn of a loop begins all in it anew.
   class Standing {
-    constructor(steps = [], arms = [], turns = []) {
+    constructor(steps = [], arms = [], turns = [], passed = [], isStopping = false) {
       this.steps = new Map(steps); this.arms = new Map(arms); this.turns = new Map(turns);
+      this.passed = new Set(passed); this.isStopping = isStopping;
     }
-    copy() { return new Standing(this.steps, this.arms, this.turns); }
-    take(did) {
+    copy() { return new Standing(this.steps, this.arms, this.turns, this.passed, this.isStopping); }
+    take(did, known) {
       if (did.step !== undefined) this.step(did.step, deedOf(did));
+      if (did.do === "end") this.passed.add(did.step);
       if (did.do === "chose") this.arms.set(did.node, did.arm);
-      if (did.do === "turn") this.turns.set(did.node, (this.turns.get(did.node) ?? 0) + 1);
+      if (did.do === "chose" || did.do === "leave") this.passed.add(did.node);
+      if (did.do === "turn") this.turn(did.node, known?.within.get(did.node) ?? []);
+      if (did.do === "broke" || did.do === "stop_asked") this.isStopping = true;
+    }
+    turn(node, within) {
+      this.turns.set(node, (this.turns.get(node) ?? 0) + 1);
+      for (const each of within) this.passed.delete(each);
     }
     step(name, deed) {
-      const old = this.steps.get(name) ?? { runs: 0, phase: "" };
+      const old = this.steps.get(name) ?? { runs: 0, phase: "", completes: false };
       const isBroken = old.phase === "broke" && deed !== "left", phase = isBroken ? "broke" : PHASES[deed] ?? old.phase;
-      this.steps.set(name, { runs: old.runs + (deed === "start" ? 1 : 0), phase });
+      const completes = deed === "finish" || (old.completes && deed !== "start");
+      this.steps.set(name, { runs: old.runs + (deed === "start" ? 1 : 0), phase, completes });
     }
   }
   class Batch {
@@ -115,7 +126,7 @@ const runs = (() => {
     }
     after(point, count) {
       const standing = this.points[point].copy();
-      for (let k = point * POINT; k < count; k += 1) standing.take(this.log.did[k]);
+      for (let k = point * POINT; k < count; k += 1) standing.take(this.log.did[k], this.known);
       return standing;
     }
     // Where a step was started last before an entry, else where first; null where never.

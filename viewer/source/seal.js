@@ -3,45 +3,65 @@
 "use strict";
 const seal = (() => {
   const WHY = { Answer: "whyAnswer", TooMany: "whyTooMany", Tail: "whyTail" };
-  function good(verdict, entries) {
-    const count = Number(verdict.entries), isSame = count === entries, other = words.say("otherLength", count, entries);
-    return { style: isSame ? "good" : "bad", short: `${words.say("auditGood")} · ${words.many("Entries", count)}`,
-      more: isSame ? words.say("sealMore") : other,
-      inWords: words.say("goodWords", words.number(count)) + (isSame ? "" : ` ${other}`) };
+  function good({ entries }) {
+    const inWords = `${words.say("goodWords", words.number(entries))} ${words.say("namesNoFile")}`;
+    return { style: "good", short: `${words.say("auditGood")} · ${words.many("Entries", entries)}`,
+      more: words.say("sealMore"), inWords };
+  }
+  function bad({ why: name, place, says }, { entries }) {
+    const why = words.say(Object.hasOwn(WHY, name) ? WHY[name] : "unlike");
+    const where = words.say("entryOf", words.number(Number(place) + 1), words.number(entries));
+    const more = why + (says ? `; ${words.say("shouldBe", words.answer(says))}` : "");
+    return { style: "bad", short: `${words.say("auditBad")} · ${where}`, more: `${more} (${words.say("sealMore")})`,
+      inWords: `${words.say("auditBad")}, ${where}: ${more}. ${words.say("namesNoFile")}` };
+  }
+  // Why verdicts that came along aren't shown.
+  function unlike(found, history) {
+    const said = key => (key === "otherLength" ? value => words.many("Entries", value) : words.number);
+    return verdicts.others(found, history).map(([key, ...values]) => words.say(key, ...values.map(said(key))));
   }
   function told(found, history) {
-    const { verdict } = found, entries = history.counts.lines - history.counts.bad;
-    const missing = words.say("sealMissing");
-    if (!verdict) return { style: "none", short: words.say("notAudited"), more: missing, inWords: missing };
-    if (verdict.audit === "good") return good(verdict, entries);
-    const why = words.say(Object.hasOwn(WHY, verdict.why) ? WHY[verdict.why] : "unlike");
-    const place = words.say("entryOf", words.number(Number(verdict.place) + 1), words.number(entries));
-    const should = verdict.says ? `; ${words.say("shouldBe", words.answer(verdict.says))}` : "", more = why + should;
-    const short = `${words.say("auditBad")} · ${place}`;
-    return { style: "bad", short, more, inWords: `${words.say("auditBad")}, ${place}: ${more}.` };
+    const verdict = verdicts.own(found, history), missing = words.say("sealMissing");
+    if (verdict) return verdict.audit === "good" ? good(verdict) : bad(verdict, history);
+    const more = [...unlike(found, history), missing][0];
+    return { style: "none", short: words.say("notAudited"), more, inWords: more };
   }
   // How many of each there are, in words.
-  function counts({ counts: own, batches, modules: tags }) {
-    const told = [words.many("Entries", own.lines - own.bad), words.many("Batches", batches.size),
-      words.many("Modules", tags.size), words.many("Refused", own.refused)];
+  function counts({ counts: own, entries, assumed, isBlind, batches, modules: tags }) {
+    const told = [words.many("Entries", entries)];
+    if (!isBlind) told.push(words.many("Batches", batches.size), words.many("Modules", tags.size));
+    if (!assumed) told.push(words.many("Refused", own.refused));
+    if (own.denied) told.push(words.many("Denied", own.denied));
     return own.bad ? [...told, words.many("Bad", own.bad)] : told;
   }
-  // Lines at fault, and what doesn't fit together.
+  // What is told of kept files: how many events they have, and where one is broken.
+  const keptFiles = ({ files }) => files.filter(file => file.kept).flatMap(({ name, kept: { events, broken } }) => {
+    const count = words.number(events), cut = words.say("keptBroken", name, count, words.number(broken ?? 0));
+    const what = words.say(events ? "kept" : "keptEmpty", name, words.many("Events", events));
+    return [what, ...(broken === null ? [] : [cut])];
+  });
+  // How the files don't fit together: events without answers, answers without events, or not as many of each.
+  function unpaired({ events, answers, hasEvents, hasAnswers, ends, length, finder, verdicts: own, site }, { odd }) {
+    if (length === 0) return finder || own.length || site ? [] : [words.say("nothing")];
+    if (!hasAnswers) return [words.say("noAnswers")];
+    const told = ends === 1 ? [] : [words.say(ends ? "manyEnds" : "noEnd", ends)];
+    if (!hasEvents) return [...told, words.say("noEvents")];
+    if (events.length !== answers.length) told.push(words.say("pairing", events.length, answers.length));
+    if (odd.length) told.push(words.say("oddAnswers", words.number(odd.length), words.number(odd[0] + 1)));
+    return told;
+  }
+  // Batch lines that say another outcome than the entries.
+  function outcomes(found, history) {
+    const told = line => history.batches.get(line.batch).outcome ?? "Running";
+    return found.batches.filter(line => history.batches.has(line.batch) && told(line) !== line.outcome)
+      .map(line => words.say("otherOutcome", line.batch, line.outcome, told(line)));
+  }
+  // What the files are where that isn't plain, what doesn't fit together, and lines at fault.
   function faults(found, history) {
-    const list = found.faults.map(({ file, line, why }) => words.say("faultLine", file, words.number(line),
+    const lines = found.faults.map(({ file, line, why }) => words.say("faultLine", file, words.number(line),
       words.say(why)));
-    const unlike = found.batches.filter(line => history.batches.has(line.batch)
-      && (history.batches.get(line.batch).outcome ?? "Running") !== line.outcome);
-    if (found.hasAnswers) {
-      list.unshift(...unlike.map(line => words.say("otherOutcome", line.batch, line.outcome,
-        history.batches.get(line.batch).outcome ?? "Running")));
-      if (found.events.length !== found.answers.length) {
-        list.unshift(words.say("pairing", found.events.length, found.answers.length));
-      }
-      if (!found.ended) list.unshift(words.say("noEnd"));
-    } else if (found.length) list.unshift(words.say("noAnswers"));
-    else list.unshift(words.say("nothing"));
-    return list;
+    return [...keptFiles(found), ...unpaired(found, history), ...(found.hasAnswers ? outcomes(found, history) : []),
+      ...unlike(found, history), ...lines];
   }
   return { told, counts, faults };
 })();

@@ -53,6 +53,7 @@ const spans = (() => {
   // Values over entries: from the entry at[k] on the value is value[k]. NaN where none is known, as after docking.
   class Series {
     constructor() { this.at = []; this.value = []; }
+    get last() { return this.value[this.value.length - 1]; }
     put(at, value) { this.at.push(at); this.value.push(value); }
     known(at) { const k = below(this.at, at); return k < 0 ? NaN : this.value[k]; }
   }

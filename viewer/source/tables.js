@@ -58,7 +58,7 @@ const tables = (() => {
     rows.push(...never.slice(0, MOST).map(each => neverRow(each, pick)));
     const left = own.length + never.length - rows.length;
     if (left) rows.push(more(left, BATCH_KEYS.length));
-    const none = calm(chosen.isAll ? "noBatch" : "noMatch");
+    const none = calm(chosen.none("noBatch"));
     holder.replaceChildren(rows.length ? table(BATCH_KEYS, rows, "overview") : none);
   }
   function alarmRow(alarm, go, isHere) {
@@ -69,8 +69,8 @@ const tables = (() => {
   const alarmTold = ({ style, key, values }) => [chip(style),
     make(style === "left" ? "b" : "span", { class: style === "left" ? "left" : null }, words.say(key, ...values))];
   // What a reviewer has to look at, around the one that is looked at.
-  function alarms(holder, list, go, here) {
-    if (!list.length) { holder.replaceChildren(calm("noAlarm")); return; }
+  function alarms(holder, list, go, here, none) {
+    if (!list.length) { holder.replaceChildren(calm(none)); return; }
     const first = here < MOST ? 0 : here - MOST / 2, shown = list.slice(first, first + MOST);
     const rows = shown.map((alarm, k) => alarmRow(alarm, go, first + k === here));
     if (first) rows.unshift(more(first, 2));
@@ -84,22 +84,50 @@ const tables = (() => {
     const isSeen = top >= holder.scrollTop && top + row.offsetHeight <= holder.scrollTop + holder.clientHeight;
     if (!isSeen) holder.scrollTop = top - holder.clientHeight / 2;
   }
-  function refusalRow(rule, places, go, current) {
-    const own = words.rule(rule), next = () => go(places[(spans.below(places, current()) + 1) % places.length]);
-    const remedy = own ? own.remedy : words.say(rule.startsWith("bad ") ? "badLine" : "noWords");
+  // Who asked for what was refused, as far as the journal says so: each with how often.
+  function askers(places, { people }) {
+    const times = new Map();
+    for (const person of places.map(at => people.get(at)).filter(each => each !== undefined)) {
+      times.set(person, (times.get(person) ?? 0) + 1);
+    }
+    const told = [...times].map(([person, count]) => (count === 1 ? person : `${person} (${words.number(count)})`));
+    return told.length ? words.say("askedFor", told.join(", ")) : "";
+  }
+  // What is said below a rule that refused: when it holds, or what a policy's rule has; and who asked.
+  function below(rule, places, history) {
+    const own = history.policy.get(rule.slice("denied ".length)), isDenial = rule.startsWith("denied ") && own;
+    return [words.refusedBy(rule).holds, isDenial ? words.ruleFor(own) : "", askers(places, history)]
+      .filter(each => each);
+  }
+  function refusalRow(rule, places, go, current, history) {
+    const own = words.refusedBy(rule), next = () => go(places[(spans.below(places, current()) + 1) % places.length]);
+    const under = below(rule, places, history);
     return make("tr", {},
-      make("td", { class: "rule" }, make("b", {}, words.visible(rule)),
-        make("span", { class: "small" }, own ? ` ${own.number}${own.star ? ` · ${words.say("starred")}` : ""}` : "")),
+      make("td", { class: "rule" }, make("b", {}, own.name), make("span", { class: "small" }, ` ${own.more}`)),
       make("td", { class: "number" }, words.number(places.length)),
-      make("td", { class: "remedy" }, remedy, own ? make("span", { class: "small block" }, own.holds) : null),
+      make("td", { class: "remedy" }, own.remedy, ...under.map(text => make("span", { class: "small block" }, text))),
       make("td", { class: "where" }, jump(places[0], go),
         places.length > 1 ? make("button", { class: "jump", type: "button", click: next }, words.say("next")) : null));
   }
   function refusals(holder, chosen, go, current) {
     const found = [...chosen.refusals()].sort(([, one], [, two]) => two.length - one.length);
-    const rows = found.map(([rule, places]) => refusalRow(rule, places, go, current));
+    const rows = found.map(([rule, places]) => refusalRow(rule, places, go, current, chosen.history));
     holder.replaceChildren(rows.length ? table(["rule", "count", "remedy", "place"], rows, "refusals")
-      : calm("noRefusal"));
+      : calm(chosen.none("noRefusal")));
+  }
+  // How a recipe could be bound, or which roles have too few modules: as the job find says.
+  const FINDER_KEYS = ["recipe", "bindable"];
+  const named = list => (Array.isArray(list) ? list.join(", ") : "?");
+  function finderRow({ recipe, bind, short, tags }) {
+    const few = words.say(tags?.length === 0 ? "shortNone" : "shortOnly", named(short), named(tags));
+    return make("tr", {}, make("td", { class: "first" }, name(recipe)),
+      make("td", {}, chip(bind ? "full" : "hold"), bind ? words.visible(words.listed(bind)) : few));
+  }
+  function finder({ rows, bad }) {
+    const own = rows.length ? table(FINDER_KEYS, rows.map(finderRow), "finder") : calm("finderNone");
+    const told = bad === null ? words.say("finderCut") : bad ? words.say("finderBad", words.number(bad)) : null;
+    return [own, told ? make("p", { class: "note" }, make("b", {}, told)) : null,
+      make("p", { class: "small" }, words.say("finderMore"))];
   }
   function waitItem(reason, go, pick, stamps) {
     const isCounted = reason.times !== undefined, parts = [];
@@ -112,21 +140,22 @@ const tables = (() => {
     const under = make("span", { class: "small block" }, parts.filter(each => each).join(" · ") + look);
     return make("li", {}, jump(reason.at, go), other, make("span", {}, reason.text), under);
   }
-  function waits(holder, told, go, pick, stamps) {
+  function waits(holder, told, go, pick, stamps, none) {
     const items = told.slice(0, MOST_WAITS).map(each => waitItem(each, go, pick, stamps));
-    holder.replaceChildren(items.length ? make("ul", {}, ...items) : calm("noWait"));
+    holder.replaceChildren(items.length ? make("ul", {}, ...items) : calm(none));
   }
-  function stillItem({ name: batch, at, text, since, again }, go, pick) {
+  function stillItem({ name: batch, at, text, since, again, branches }, go, pick) {
     const under = make("span", { class: "small block" }, since, again ? " · " : null,
       again ? make("b", { class: "again" }, again) : null);
-    return make("li", {}, picked(batch, pick), jump(at, go), make("span", {}, text), under);
+    const each = branches.map(branch => make("span", { class: "small branch" }, branch));
+    return make("li", {}, picked(batch, pick), jump(at, go), make("span", {}, text), under, ...each);
   }
-  // What waits or stands still at the end.
+  // What waits or stands still at the end, and by each batch where its branches stand.
   function still(holder, told, go, pick) {
     const items = told.slice(0, MOST).map(each => stillItem(each, go, pick)), left = told.length - items.length;
     if (left) items.push(make("li", { class: "calm" }, words.say("more", words.number(left))));
     holder.replaceChildren(make("ul", {}, ...items));
   }
-  return { make, name, jump, table, more, NUMBERS, chip, calm, batches, alarms, alarmTold, refusals, waits, still,
-    BATCH_KEYS, batchRow, neverRow, refusalRow };
+  return { make, name, jump, table, more, NUMBERS, chip, calm, batches, alarms, alarmTold, refusals, below, finder,
+    waits, still, BATCH_KEYS, batchRow, neverRow };
 })();

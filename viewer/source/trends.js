@@ -8,8 +8,9 @@ const trends = (() => {
       Object.assign(this, { kind: "trend", batch, read, series, kindAt, label: `${read.role}.${read.name}`,
         edges: null });
     }
+    // Before its batch began, the module may not have been there: then kinds are those of the start.
     said(value, at) {
-      const kind = this.kindAt(at);
+      const kind = this.kindAt(Math.max(at, this.batch.started));
       return kind === "BinView" ? String(Boolean(value)) : words.value(value, kind);
     }
     limits(at) {

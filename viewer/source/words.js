@@ -15,6 +15,8 @@ const words = (() => {
     command: code => docs.commands[code] ?? `command ${code}`,
     bind: listed,
     watch: watch => (watch ? say("watches", listed(watch)) : ""),
+    answer: given => (given ? answer(given) : "?"),
+    who: person => (typeof person === "string" ? person : say("anOperator")),
     values: values => (Array.isArray(values) && values.length ? values.join(", ") : say("byNothing")),
   };
   function filled(form, values) {
@@ -67,6 +69,7 @@ const words = (() => {
   const EVENTS = { recipe: "recipeEvent", start: "startEvent" };
   function event(happened, kindOf = () => undefined) {
     const known = typeof happened?.ev === "string" && Object.hasOwn(docs.events, happened.ev);
+    if (happened === undefined) return say("eventMissing");
     if (!known) {
       return say("noEvent") + (happened ? ": " + visible(JSON.stringify(happened, plainly)).slice(0, 300) : "");
     }
@@ -85,6 +88,7 @@ const words = (() => {
   function answer(given, said) {
     if (!given) return say("noAnswer");
     if ("refused" in given) return `${say("refused")}: ${refusal(given)}`;
+    if ("denied" in given) return given.policy === undefined ? say("deniedByNone") : say("deniedBy", given.policy);
     if ("bad" in given) {
       return `${say("refused")}: ${visible(given.bad)} ${visible(given.path ?? given.fault ?? "")}`.trim();
     }
@@ -116,6 +120,27 @@ const words = (() => {
     const [what, look] = (language && german.waits[name]) || [docs.waits[name].for, docs.waits[name].look];
     return { for: what, look: withFields(look, given) };
   }
+  // What is said of a rule that refused, as the history names it: also of a policy's rule and of lines at fault, which
+  // aren't among the docs' rules.
+  function refusedBy(key) {
+    const own = rule(key), isPolicy = key === "denied" || key.startsWith("denied "), name = key.slice("denied ".length);
+    if (own) {
+      const more = own.star ? `${own.number} · ${say("starred")}` : String(own.number);
+      return { name: key, more, remedy: own.remedy, holds: own.holds };
+    }
+    if (isPolicy) {
+      return { name: name ? visible(name) : say("denied"), more: say("policy"), holds: "",
+        remedy: say(name ? "deniedMore" : "deniedByNoneMore") };
+    }
+    return { name: visible(key), more: "", remedy: say(key.startsWith("bad ") ? "badLine" : "noWords"), holds: "" };
+  }
+  // For whom and what a policy's rule is, as it stands there: a list that is absent is for all.
+  function ruleFor({ who, tags, services, commands }) {
+    const lists = [["who", who ?? [say("everybody")]], ["module", tags], ["service", services],
+      ["command", Array.isArray(commands) ? commands.map(SAID.command) : undefined]];
+    const there = lists.filter(([, list]) => Array.isArray(list));
+    return say("inPolicy", there.map(([key, list]) => `${say(key)}: ${list.join(", ")}`).join(" · "));
+  }
   const withFields = (text, given) => text.replace(/\{(\w+)\}/g, (_, key) => {
     if (!Object.hasOwn(given, key)) return key;
     return visible(key === "state" ? SAID.state(given[key]) : given[key]);
@@ -124,6 +149,6 @@ const words = (() => {
   const word = (table, key) => (Object.hasOwn(docs[table], key) ? ownOf(table, key) : null);
   const set = isGerman => { language = isGerman ? 1 : 0; };
   return { say, many, visible, number, thousandths, value, stamp, isTime, left, lasted, event, answer, refusal, rule,
-    wait, word, listed, played, set,
+    refusedBy, ruleFor, wait, word, listed, played, set,
     state: SAID.state, command: SAID.command, isGerman: () => language === 1 };
 })();

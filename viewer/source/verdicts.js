@@ -1,0 +1,37 @@
+// Which verdict of an audit is shown: its line names no file, so one counts only where it can be of the history that
+// the files hold. A good one tells a number of entries; a bad one a place, and for a wrong answer what it should be.
+// Believes the verdict and checks nothing else. Knows nothing of how it is shown.
+"use strict";
+const verdicts = (() => {
+  const sameAnswer = (one, two) => JSON.stringify(sorted(one)) === JSON.stringify(sorted(two));
+  // With the keys of each object in one order, whatever the line's.
+  function sorted(value) {
+    if (typeof value === "bigint") return String(value);
+    if (Array.isArray(value)) return value.map(sorted);
+    if (typeof value !== "object" || value === null) return value;
+    return Object.fromEntries(Object.keys(value).sort().map(key => [key, sorted(value[key])]));
+  }
+  // Why a verdict can't be of these files, as a key of the labels with its values; null where it can.
+  function doubt(verdict, found, history) {
+    const { entries } = history, place = Number(verdict.place);
+    if (found.length && !(found.hasAnswers && found.hasEvents)) return ["otherKind"];
+    if (verdict.audit === "good" && Number.isInteger(verdict.entries)) {
+      return verdict.entries === entries ? null : ["otherLength", verdict.entries, entries];
+    }
+    if (verdict.audit !== "bad" || !Number.isInteger(place) || place < 0) return ["otherVerdict"];
+    const lines = entries + found.batches.length + found.faults.length + 1;
+    const isBehind = verdict.why === "Tail" ? place > lines : place >= entries;
+    if (isBehind) return ["otherPlace", place + 1, entries];
+    const isSame = verdict.why === "Answer" && sameAnswer(found.entry(place)[1], verdict.says);
+    return isSame ? ["otherAnswer", place + 1] : null;
+  }
+  // The verdict that is shown: a bad one before a good one.
+  function own(found, history) {
+    const fitting = found.verdicts.filter(each => doubt(each, found, history) === null);
+    return fitting.find(each => each.audit === "bad") ?? fitting[0] ?? null;
+  }
+  // Why each of the others isn't.
+  const others = (found, history) => found.verdicts.map(each => doubt(each, found, history))
+    .filter(each => each !== null);
+  return { own, others };
+})();
