@@ -5,3 +5,5 @@ pub mod Work
 pub mod Bodies
 pub mod Lawful
 pub mod Read
+pub mod Ledgers
+pub mod Same

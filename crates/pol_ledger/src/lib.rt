@@ -4,8 +4,10 @@
 mod bodies;
 mod build;
 mod items;
+mod ledger;
 mod sums;
 
 pub use bodies::FORM;
 pub use build::{Build, THIS_BUILD};
 pub use items::{Asked, LedgerAnswer, LedgerItem};
+pub use ledger::Ledger;

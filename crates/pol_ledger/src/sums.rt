@@ -1,5 +1,5 @@
 //! The sum over a record and all records before it.
-ghost use Rattle.std.specs.Prelude.{◌≡◌};
+ghost use Rattle.std.specs.Prelude.{◌≡◌, ◌≤◌, length, take};
 ghost use Rattle.sha2.specs.Hashers.{Holds256};
 ghost use Rattle.pol_ledger.specs.Sums.{bytes_before, sum_after};
 
@@ -22,4 +22,14 @@ pub fn sum_after(before: Option<[u8; 32]>, body: &[u8]) -> [u8; 32]
     let mut hasher = hasher_behind(before);
     hasher.update(body);
     hasher.finalize()
+}
+
+/// The sum that the text of a record begins with.
+pub fn sum_of_text(text: &[u8]) -> [u8; 32]
+    requires { 32 ≤ length text.now }
+    ensures { result ≡ take 32 text.now }
+{
+    let mut sum = [0; 32];
+    sum.copy_from_slice(&text[..32]);
+    sum
 }
