@@ -1,5 +1,5 @@
 -- A body is that of one item, and a record's text has one sum and one body.
-use Rattle.std.proofs.Common.{◌≡◌, ◌≤◌, List, ℕ, Result, Ok, Some, None, Option, [], ◌∷◌, ◌++◌, length, take, drop, refl, sym, ◌∙◌, ap, arith, IsTrue}
+use Rattle.std.proofs.Common.{◌≡◌, ◌≤◌, List, ℕ, Result, Ok, Some, None, Option, ◌∷◌, ◌++◌, length, take, drop, refl, sym, ◌∙◌, ap, arith, IsTrue}
 use Rattle.std.proofs.Math.Seq.{take-append_seam, drop-append_seam}
 use Rattle.sha2.proofs.Facts256.{length-sha256}
 use Rattle.event_json.specs.declared.fault.LineFault.{LineFault}
@@ -7,7 +7,7 @@ use Rattle.event_json.specs.Lines.{event_of}
 use Rattle.mtp_codes.specs.Names.{is_name}
 use Rattle.pol_events.specs.Events.{PlainEvent}
 use Rattle.pol_record.specs.Texts.{event_text}
-use Rattle.pol_ledger.specs.Items.{IsInForm, IsWho, PlainAsked, PlainItem, asked, body_of, header, sum_of, text_behind, who_bytes}
+use Rattle.pol_ledger.specs.Items.{IsInForm, IsWho, PlainItem, asked, body_of, header, who_bytes}
 use Rattle.pol_ledger.specs.Sums.{sum_after}
 
 -- where two lists begin with as many bytes, these are the same, and so are those behind

@@ -10,7 +10,7 @@ use Rattle.pol_kept.specs.Work.{IsLawful}
 use Rattle.pol_store.specs.Lawful.{room_recorded}
 use Rattle.pol_ledger.specs.Bodies.{one_body, one_text}
 use Rattle.pol_ledger.specs.Items.{PlainAsked, PlainItem, asked, body_of, header, sum_of}
-use Rattle.pol_ledger.specs.Work.{BegunLedger, IsTextOf, asked_after, history_of, items_of, keeps_item, ledger_after, ledger_answer, ledger_work}
+use Rattle.pol_ledger.specs.Work.{BegunLedger, IsTextOf, history_of, items_of, keeps_item, ledger_after, ledger_answer, ledger_work}
 
 -- an entry makes a history longer by one at most
 length-recorded : (history : History) (event : PlainEvent) →

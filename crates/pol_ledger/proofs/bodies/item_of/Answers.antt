@@ -1,4 +1,4 @@
-use Rattle.std.proofs.Common.{◌≡◌, ℕ, List, ◌∷◌, ap, subst, sym, ◌∙◌}
+use Rattle.std.proofs.Common.{◌≡◌, ℕ, ◌∷◌, ap, subst, ◌∙◌}
 use Rattle.pol_store.specs.Work.{NamesEvent}
 use Rattle.pol_ledger.proofs.Reading.{no_event}
 use Rattle.pol_ledger.proofs.bodies.item_of.Goals as goal
