@@ -1,5 +1,5 @@
 -- Which texts name a build of the program: 1 to 64 bytes, each printable ASCII.
-use Rattle.std.specs.Prelude.{ℕ, List, length, Bool, ◌&&◌, nat_le, take, IsTrue}
+use Rattle.std.specs.Prelude.{ℕ, List, length, Bool, ◌&&◌, codes, nat_le, take, IsTrue}
 use Rattle.std.specs.List.{list_all}
 use Rattle.mtp_codes.specs.Padded.{IsPadded}
 
@@ -15,3 +15,7 @@ is_build bytes = (nat_le 1 (length bytes) && nat_le (length bytes) 64) && list_a
 pub record IsKeptBuild (bytes : List ℕ) (len : ℕ) : Type 0 where
   pub padding : IsPadded 64 bytes len
   pub form : IsTrue (is_build (take len bytes))
+
+-- what names this build of the program
+abbrev pub this_build : List ℕ
+this_build = codes "pol 1.0.0"

@@ -7,3 +7,4 @@ pub mod Lawful
 pub mod Read
 pub mod Ledgers
 pub mod Same
+pub mod Opens

@@ -1,7 +1,7 @@
 //! The build of the program that began a ledger.
-ghost use Rattle.std.specs.Prelude.{◌≡◌, Some, None, IsTrue, codes, if◌then◌else◌};
+ghost use Rattle.std.specs.Prelude.{◌≡◌, Some, None, IsTrue, if◌then◌else◌};
 ghost use Rattle.std.specs.List.{list_all};
-ghost use Rattle.pol_ledger.specs.Builds.{is_build, is_printable};
+ghost use Rattle.pol_ledger.specs.Builds.{is_build, is_printable, this_build};
 
 use std::marker::Model;
 
@@ -66,5 +66,15 @@ impl Build {
         ensures form { IsTrue (is_build self.now) }
     {
         &self.bytes[..self.len as usize]
+    }
+
+    /// This build of the program.
+    pub fn this() -> Build
+        ensures { result ≡ this_build }
+    {
+        match Build::of_bytes(THIS_BUILD.as_bytes()) {
+            Some(build) => build,
+            None => unreachable!(),
+        }
     }
 }

@@ -106,6 +106,13 @@ impl Ledger {
         self.build.as_ref()
     }
 
+    /// Whether a header began it.
+    pub fn is_begun(&self) -> bool
+        ensures { result ≡ is_some (ledger_state self.now) }
+    {
+        self.build.is_some()
+    }
+
     // Begins it: the header has this text.
     fn begin(&mut self, build: Build, text: &[u8])
         requires none { self.old.build ≡ None }

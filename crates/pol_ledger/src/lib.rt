@@ -5,9 +5,11 @@ mod bodies;
 mod build;
 mod items;
 mod ledger;
+mod opening;
 mod sums;
 
 pub use bodies::FORM;
 pub use build::{Build, THIS_BUILD};
 pub use items::{Asked, LedgerAnswer, LedgerItem};
 pub use ledger::Ledger;
+pub use opening::open;
