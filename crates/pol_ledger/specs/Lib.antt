@@ -8,3 +8,4 @@ pub mod Read
 pub mod Ledgers
 pub mod Same
 pub mod Opens
+pub mod Told
