@@ -20,4 +20,6 @@ mod writing;
 pub use cutting::first_text;
 pub use laws::{histories_are_runs, images_stand_for_one_list};
 pub use pol_kept::{CommitFault, OpenFault};
+pub use records::event_of_text;
 pub use store::{Store, StoreRefusal};
+pub use writing::put_event_text;

@@ -1,0 +1,5 @@
+pub mod Reading
+pub mod Taking
+pub mod Finding
+pub mod Beginning
+pub mod OneSum

@@ -1,0 +1,11 @@
+pub mod Sums
+pub mod Builds
+pub mod Items
+pub mod Work
+pub mod Bodies
+pub mod Lawful
+pub mod Read
+pub mod Ledgers
+pub mod Same
+pub mod Opens
+pub mod Told

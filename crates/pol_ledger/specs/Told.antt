@@ -1,0 +1,20 @@
+-- What the sum of the last record tells.
+use Rattle.std.specs.Prelude.{◌≡◌, ◌≢◌, ◌⊎◌, ℕ, List}
+use Rattle.sha2.specs.Sha256.{sha256}
+use Rattle.pol_kept.specs.Stands.{StandsFor}
+use Rattle.pol_ledger.specs.Items.{PlainItem, sum_of}
+use Rattle.pol_ledger.specs.Work.{ledger_work}
+
+-- two messages that differ have one SHA-256
+pub record HasCollision : Type 0 where
+  pub one : List ℕ
+  pub other : List ℕ
+  pub differ : one ≢ other
+  pub same : sha256 one ≡ sha256 other
+
+-- where two images stand for ledgers with one sum, they stand for the same items, or two messages are at hand that have
+-- one SHA-256
+abbrev pub SumsTellItems : Type 0
+SumsTellItems =
+    (image other : List ℕ) (items others : List PlainItem) → StandsFor ledger_work items image
+    → StandsFor ledger_work others other → sum_of items ≡ sum_of others → (items ≡ others) ⊎ HasCollision
