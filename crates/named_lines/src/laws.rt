@@ -1,0 +1,25 @@
+//! Laws of what lines say in which any event may name who gives it.
+ghost use Rattle.std.specs.Prelude.{◌≡◌, ℕ, List, Ok};
+ghost use Rattle.event_json.specs.Guarded.{PlainGuarded, guarded_of};
+ghost use Rattle.event_json.specs.Lines.{event_of};
+ghost use Rattle.named_lines.specs.Lines.{IsOfDesk, NamesNobody, as_guarded, by_nobody};
+ghost use Rattle.named_lines.specs.Named.{named_of};
+
+/// A line that names nobody and is no command of the desk says what it says in a journal: the event, of nobody, or the
+/// fault.
+#[tactic(auto, using(crate::proofs::Alike::unnamed_alike))]
+pub fn unnamed_lines_are_alike()
+    ensures { (line : List ℕ) → NamesNobody line → (IsOfDesk line → ⊥) → named_of line ≡ by_nobody (event_of line) }
+{}
+
+/// A command of the desk says what it says under a policy: the event with its person, or the fault.
+#[tactic(auto, using(crate::proofs::Alike::desk_alike))]
+pub fn desk_lines_are_alike()
+    ensures { (line : List ℕ) → IsOfDesk line → named_of line ≡ as_guarded (guarded_of line) }
+{}
+
+/// What a line says under a policy it says here too.
+#[tactic(auto, using(crate::proofs::Alike::guarded_alike))]
+pub fn guarded_lines_are_alike()
+    ensures { (line : List ℕ) (said : PlainGuarded) → guarded_of line ≡ Ok said → named_of line ≡ as_guarded (Ok said) }
+{}
