@@ -1,5 +1,5 @@
 -- What lines say here they say in a journal or under a policy.
-use Rattle.std.proofs.Common.{◌≡◌, ℕ, Bool, List, [], ◌∷◌, true, false, true≢false, Option, Some, None, Err, Ok, refl, sym, ap, ◌∙◌}
+use Rattle.std.proofs.Common.{◌≡◌, ℕ, Bool, List, [], ◌∷◌, true, false, Option, Some, None, Err, Ok, refl, ap, ◌∙◌}
 use Rattle.std.proofs.lemmas.Bool.{and_parts}
 use Rattle.std.proofs.lemmas.Slice.Eq.{bytes_eq-Decides}
 use Rattle.std.specs.Prelude.{codes, IfOk, if◌then◌else◌, ⊤, not, ◌||◌}
@@ -25,7 +25,6 @@ use Rattle.event_json.specs.Lines.{event_of, fault_within, of_line, unless_fault
 use Rattle.event_json.specs.Words.{kind_words}
 use Rattle.named_lines.specs.Lines.{IsOfDesk, NamesNobody, as_guarded, by_nobody, found_at}
 use Rattle.named_lines.specs.Named.{PlainNamed, given_by, named_in, named_of, of_named, person_in, person_of}
-use Rattle.named_lines.specs.Without.{without}
 use Rattle.named_lines.proofs.Without.{absent_key, desk_keys, other_field, still_object}
 use Rattle.named_lines.proofs.Stamps.{IsUnnamed, kind_unnamed, stamp_first}
 

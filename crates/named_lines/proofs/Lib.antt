@@ -1,3 +1,4 @@
 pub mod Without
 pub mod Stamps
 pub mod Alike
+pub mod Said

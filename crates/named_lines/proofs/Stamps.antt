@@ -1,6 +1,6 @@
 -- What the forms of all kinds of events have in common: the stamp comes first, none has the key `by`, and an event is
 -- of the desk exactly where its kind is.
-use Rattle.std.proofs.Common.{◌≡◌, ℕ, Bool, List, true, false, Option, Some, None, Err, Ok, rules, refl}
+use Rattle.std.proofs.Common.{◌≡◌, ℕ, List, false, None, Err, Ok, rules, refl}
 use Rattle.std.specs.Prelude.{codes, IfOk, ⊤}
 use Rattle.serde_json.specs.Data.{Data}
 use Rattle.serde_json.specs.Find.{get}
@@ -76,3 +76,24 @@ kind_unnamed value Desk = search (rules, only_before, any_before)
 kind_unnamed value ExchangeBegin = search (rules, only_before, any_before)
 kind_unnamed value ExchangeEnd = search (rules, only_before, any_before)
 kind_unnamed value ExchangeCancel = search (rules, only_before, any_before)
+
+-- an event is of the desk exactly where its kind is
+pub kind_told : (value : Data) (kind : EventKind) → IfOk (event_by value kind)
+    (λ event. is_desk event ≡ is_desk_kind kind)
+unfolding plug_in tag_in report_in variable_in desk_in exchange_end_in exchange_cancel_in freeze_in batch_in
+    recipe_in start_in
+kind_told value Plug = search (rules, any_before)
+kind_told value Unplug = search (rules, any_before)
+kind_told value Report = search (rules, any_before)
+kind_told value Variable = search (rules, any_before)
+kind_told value Recipe = search (rules, any_before)
+kind_told value Start = search (rules, any_before)
+kind_told value Advance = search (rules, any_before)
+kind_told value Freeze = search (rules, any_before)
+kind_told value Thaw = search (rules, any_before)
+kind_told value Stop = search (rules, any_before)
+kind_told value Abandon = search (rules, any_before)
+kind_told value Desk = search (rules, any_before)
+kind_told value ExchangeBegin = search (rules, any_before)
+kind_told value ExchangeEnd = search (rules, any_before)
+kind_told value ExchangeCancel = search (rules, any_before)

@@ -1,7 +1,7 @@
 -- What stands at the keys of a value from which a key was taken out.
 use Rattle.std.proofs.Common.{◌≡◌, ◌&&◌, ℕ, List, [], ◌∷◌, ◌++◌, Bool, true, false, true≢false, Option, Some, None, Ok, Err}
 use Rattle.std.proofs.Common.{option_map}
-use Rattle.std.proofs.Common.{Ordering, Less, Equal, Greater, String, Global, BTreeMap, string_bytes, is_eq, refl, sym, ap, ◌∙◌}
+use Rattle.std.proofs.Common.{Ordering, Less, Equal, Greater, String, Global, string_bytes, is_eq, refl, sym, ap, ◌∙◌}
 use Rattle.std.specs.Prelude.{◌||◌, codes, if◌then◌else◌}
 use Rattle.std.proofs.lemmas.Bool.{and_parts}
 use Rattle.std.proofs.lemmas.Map.Text.{is_eq-slice_cmp}
@@ -15,7 +15,6 @@ use Rattle.std.specs.Str.{bytes_eq}
 use Rattle.serde_json.specs.Data.{Data, null, boolean, number, string, array, object, Members, no_members, member}
 use Rattle.serde_json.specs.Find.{get, get_member}
 use Rattle.serde_json.specs.View.{view, members_view}
-use Rattle.serde_json.specs.declared.value.Value.{Value}
 use Rattle.serde_json.proofs.Views.{Entry, view-lookup}
 use Rattle.mtp_json.specs.declared.fault.FaultKind.TheVariants.{Unknown}
 use Rattle.mtp_json.specs.Form.{all_listed, is_listed, nothing_but, object_here, present, required, words}

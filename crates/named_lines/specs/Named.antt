@@ -1,5 +1,5 @@
 -- What a line says in which any event may name who gives it: an event, and perhaps a person.
-use Rattle.std.specs.Prelude.{ℕ, List, Option, Some, None, codes, Result, Ok, Err, if◌then◌else◌}
+use Rattle.std.specs.Prelude.{ℕ, List, Option, Some, codes, Result, Ok, if◌then◌else◌}
 use Rattle.serde_json.specs.Data.{Data}
 use Rattle.mtp_codes.specs.Numbers.{greatest_u64}
 use Rattle.mtp_json.specs.Form.{required, optional, object_here}
