@@ -20,7 +20,8 @@ use Rattle.pol_events.specs.Events.{PlainEvent, desk}
 use Rattle.event_json.specs.declared.kind.EventKind.{EventKind}
 use Rattle.event_json.specs.declared.kind.EventKind.TheVariants.{Desk}
 use Rattle.event_json.specs.Forms.{desk_in, event_by, event_in}
-use Rattle.event_json.specs.Guarded.{PlainGuarded, guarded_by, guarded_desk_in, guarded_in, guarded_of, is_desk_kind, of_guarded, unnamed}
+use Rattle.event_json.specs.Guarded.{PlainGuarded, guarded_by, guarded_desk_in, guarded_in, guarded_of}
+use Rattle.event_json.specs.Guarded.{is_desk_kind, of_guarded, unnamed}
 use Rattle.event_json.specs.Lines.{event_of, fault_within, of_line, unless_faulty}
 use Rattle.event_json.specs.Words.{kind_words}
 use Rattle.named_lines.specs.Lines.{IsOfDesk, NamesNobody, as_guarded, by_nobody, found_at}

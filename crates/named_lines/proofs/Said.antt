@@ -38,7 +38,8 @@ person_told value kind = go (is_desk_kind kind)
     any (Ok person) = λ is. absurd cc
     any (Err fault) = tt
 
-    go : (is : Bool) → IfOk (if is then some_person (required (codes "by") name value) else optional (codes "by") name value)
+    go : (is : Bool)
+        → IfOk (if is then some_person (required (codes "by") name value) else optional (codes "by") name value)
         (λ person. is ≡ true → is_some person ≡ true)
     go true = any_before (λ person. true ≡ true → is_some person ≡ true) (required (codes "by") name value)
         (λ person. Ok (Some person)) (λ person is. refl)

@@ -45,8 +45,8 @@ abbrev pub IsUnnamed : Data → Type 0
 IsUnnamed value = get (codes "by") value ≡ None
 
 -- where no key but these was found, and `by` is none of them, there is no key `by`
-only_before : {B : Type 0} (keys : List ℕ) (value : Data) (next : ⊤ → ReadResult B) → is_listed keys (codes "by") ≡ false
-    → IfOk (nothing_but keys value >>= next) (λ _. IsUnnamed value)
+only_before : {B : Type 0} (keys : List ℕ) (value : Data) (next : ⊤ → ReadResult B)
+    → is_listed keys (codes "by") ≡ false → IfOk (nothing_but keys value >>= next) (λ _. IsUnnamed value)
 only_before {B} keys value next out = go (nothing_but keys value) refl
   where
     known : (read : ReadResult B) → IsUnnamed value → IfOk read (λ _. IsUnnamed value)

@@ -1,5 +1,6 @@
 -- What stands at the keys of a value from which a key was taken out.
-use Rattle.std.proofs.Common.{◌≡◌, ◌&&◌, ℕ, List, [], ◌∷◌, ◌++◌, Bool, true, false, true≢false, Option, Some, None, Ok, Err}
+use Rattle.std.proofs.Common.{◌≡◌, ◌&&◌, ℕ, List, [], ◌∷◌, ◌++◌, Bool, true, false}
+use Rattle.std.proofs.Common.{true≢false, Option, Some, None, Ok, Err}
 use Rattle.std.proofs.Common.{option_map}
 use Rattle.std.proofs.Common.{Ordering, Less, Equal, Greater, String, Global, string_bytes, is_eq, refl, sym, ap, ◌∙◌}
 use Rattle.std.specs.Prelude.{◌||◌, codes, if◌then◌else◌}

@@ -1,7 +1,7 @@
 -- What lines say here, against what they say in a journal and under a policy.
-use Rattle.std.specs.Prelude.{◌≡◌, ℕ, List, Option, Some, None, codes, Result, Ok, Err}
+use Rattle.std.specs.Prelude.{◌≡◌, ℕ, List, Option, Some, None, codes, Result, Ok, Err, option_and_then}
 use Rattle.serde_json.specs.Data.{Data, string}
-use Rattle.serde_json.specs.Find.{get}
+use Rattle.serde_json.specs.Find.{as_str, get}
 use Rattle.mtp_json.specs.Parse.{json_of}
 use Rattle.mtp_json.specs.ReadResult.{Finding}
 use Rattle.pol_events.specs.Events.{PlainEvent}
@@ -35,3 +35,7 @@ by_nobody (Err fault) = Err fault
 abbrev pub as_guarded : Result PlainGuarded LineFault → Result PlainNamed LineFault
 as_guarded (Ok guarded) = Ok (record { event = guarded.event; person = guarded.person })
 as_guarded (Err fault) = Err fault
+
+-- whom a line names at `by`
+abbrev pub person_at : List ℕ → Option (List ℕ)
+person_at line = option_and_then as_str (value_at (codes "by") line)

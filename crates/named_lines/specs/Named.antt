@@ -26,7 +26,7 @@ pub record PlainNamed : Type 0 where
 abbrev pub plain_named : Named → PlainNamed
 plain_named named = record { event = plain_event named.event; person = named.by }
 
--- who has to be named
+-- a person who was found, as one that is there
 abbrev pub some_person : ReadResult (List ℕ) → ReadResult (Option (List ℕ))
 some_person read = read >>= λ person. Ok (Some person)
 

@@ -2,8 +2,8 @@
 ghost use Rattle.std.specs.Prelude.{◌≡◌, ℕ, List, Ok};
 ghost use Rattle.event_json.specs.Guarded.{PlainGuarded, guarded_of};
 ghost use Rattle.event_json.specs.Lines.{event_of};
-ghost use Rattle.named_lines.specs.Lines.{IsOfDesk, NamesNobody, as_guarded, by_nobody};
-ghost use Rattle.named_lines.specs.Named.{named_of};
+ghost use Rattle.named_lines.specs.Lines.{IsOfDesk, NamesNobody, as_guarded, by_nobody, person_at};
+ghost use Rattle.named_lines.specs.Named.{PlainNamed, named_of};
 
 /// A line that names nobody and is no command of the desk says what it says in a journal: the event, of nobody, or the
 /// fault.
@@ -22,4 +22,10 @@ pub fn desk_lines_are_alike()
 #[tactic(auto, using(crate::proofs::Alike::guarded_alike))]
 pub fn guarded_lines_are_alike()
     ensures { (line : List ℕ) (said : PlainGuarded) → guarded_of line ≡ Ok said → named_of line ≡ as_guarded (Ok said) }
+{}
+
+/// Whoever is said to give an event is whom `by` names, and where it names nobody, nobody is.
+#[tactic(auto, using(crate::proofs::Persons::line_named))]
+pub fn persons_are_named()
+    ensures { (line : List ℕ) (said : PlainNamed) → named_of line ≡ Ok said → said.person ≡ person_at line }
 {}

@@ -21,7 +21,7 @@ impl LineForm for NamedLines {
 
     ghost said_of = { named_of };
 
-    /// What a compact line says that is read under a policy: one of another kind that names a person is not.
+    // A compact line that is read under a policy says the same; one of another kind that names a person is not read so.
     #[inline(always)]
     #[tactic(auto, using(crate::proofs::Alike::guarded_alike))]
     fn read_quickly(alloc: Global, line: &[u8]) -> Option<Named> {
@@ -32,7 +32,7 @@ impl LineForm for NamedLines {
         })
     }
 
-    /// None: under a policy a person is no fault of a command of the desk alone.
+    // A fault under a policy may be none here, as that an event of another kind names a person.
     fn fault_quickly(_alloc: Global, _line: &[u8]) -> Option<LineFault> {
         None
     }

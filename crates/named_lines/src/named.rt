@@ -26,7 +26,8 @@ pub struct Named {
 }
 
 fn with_person(read: Result<Event, LineRefusal>, by: Option<Name>) -> Result<Named, LineRefusal>
-    ensures { (said : ReadResult PlainEvent) → Tells read (of_line said) → TellsNamed result (of_named (given_by by said)) }
+    ensures { (said : ReadResult PlainEvent) → Tells read (of_line said)
+        → TellsNamed result (of_named (given_by by said)) }
 {
     match read {
         Ok(event) => Ok(Named { event, by }),
