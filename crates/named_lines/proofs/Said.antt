@@ -105,6 +105,11 @@ pub line_said : (line : List ℕ) (named : PlainNamed) → named_of line ≡ Ok 
 unfolding named_of
 line_said line named is = said_said (named_read_of line) named (read_named line) is
 
+-- a command of the desk that a line says has a person
+pub desk_named : (line : List ℕ) (named : PlainNamed) → named_of line ≡ Ok named → is_desk named.event ≡ true
+    → is_some named.person ≡ true
+desk_named line named is = (line_said line named is).person
+
 -- what was told of a line is orderly
 pub told_orderly : (line : List ℕ) (result : Result Named LineRefusal) → TellsNamed result (named_of line)
     → IfOk result (λ named. IsTrue (is_orderly (plain_event named.event)))

@@ -1,6 +1,6 @@
 //! Laws of what lines say in which any event may name who gives it.
-ghost use Rattle.std.specs.Prelude.{◌≡◌, ℕ, List, Ok};
-ghost use Rattle.event_json.specs.Guarded.{PlainGuarded, guarded_of};
+ghost use Rattle.std.specs.Prelude.{◌≡◌, ℕ, List, Ok, is_some, true};
+ghost use Rattle.event_json.specs.Guarded.{PlainGuarded, guarded_of, is_desk};
 ghost use Rattle.event_json.specs.Lines.{event_of};
 ghost use Rattle.named_lines.specs.Lines.{IsOfDesk, NamesNobody, as_guarded, by_nobody, person_at};
 ghost use Rattle.named_lines.specs.Named.{PlainNamed, named_of};
@@ -28,4 +28,11 @@ pub fn guarded_lines_are_alike()
 #[tactic(auto, using(crate::proofs::Persons::line_named))]
 pub fn persons_are_named()
     ensures { (line : List ℕ) (said : PlainNamed) → named_of line ≡ Ok said → said.person ≡ person_at line }
+{}
+
+/// Each command of the desk that a line says has a person who gives it.
+#[tactic(auto, using(crate::proofs::Said::desk_named))]
+pub fn desk_commands_are_named()
+    ensures { (line : List ℕ) (said : PlainNamed) → named_of line ≡ Ok said → is_desk said.event ≡ true
+        → is_some said.person ≡ true }
 {}
