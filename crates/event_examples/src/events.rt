@@ -8,7 +8,8 @@ use given::fault_text;
 use std::alloc::Global;
 use std::test::*;
 
-fn line_fault_text(alloc: Global, fault: LineFault) -> Result<String, Fail> {
+/// A fault as a text: its kind and the text of its path, or the fault of the chart.
+pub fn line_fault_text(alloc: Global, fault: LineFault) -> Result<String, Fail> {
     match fault {
         LineFault::TooLong => Ok(String::from_str(alloc, "too long")?),
         LineFault::Chart(fault) => Ok(format!(in alloc; "{fault:?}")?),

@@ -8,6 +8,8 @@ mod events;
 #[cfg(test)]
 mod output_lines;
 #[cfg(test)]
+mod persons;
+#[cfg(test)]
 mod quick_lines;
 #[cfg(test)]
 mod site_texts;

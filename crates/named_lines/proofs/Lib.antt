@@ -1,0 +1,5 @@
+pub mod Without
+pub mod Stamps
+pub mod Alike
+pub mod Said
+pub mod Persons
