@@ -4,15 +4,17 @@ use Rattle.std.specs.Prelude.{reverse}
 use Rattle.std.specs.List.{list_all}
 use Rattle.std.specs.Str.{bytes_eq}
 use Rattle.std.proofs.lemmas.Bool.{and_parts}
-use Rattle.std.proofs.lemmas.List.{append-nil, length_push, reverse-append, reverse-reverse}
+use Rattle.std.proofs.lemmas.List.{append-nil, length_push, reverse-append, reverse-reverse, same_from_push}
 use Rattle.std.proofs.lemmas.Slice.Eq.{bytes_eq-Decides}
 use Rattle.sha2.specs.Sha256.{sha256}
 use Rattle.pol_kept.specs.Stands.{AreTextsOf}
+use Rattle.pol_kept.proofs.Texts.{texts-push}
+use Rattle.pol_ledger.proofs.Taking.{sum_of_text}
 use Rattle.pol_ledger.specs.Bodies.{length-sum, one_body, same_front, same_tail}
 use Rattle.pol_ledger.specs.Builds.{is_build, is_printable}
-use Rattle.pol_ledger.specs.Items.{IsInForm, PlainItem, asked, body_of, header, sum_from, who_bytes}
+use Rattle.pol_ledger.specs.Items.{IsInForm, PlainItem, asked, body_of, header, sum_from, sum_of, who_bytes}
 use Rattle.pol_ledger.specs.Sums.{sum_after}
-use Rattle.pol_ledger.specs.Told.{HasCollision, SumsTellItems}
+use Rattle.pol_ledger.specs.Told.{HasCollision, RecordsFollowOne, SumsTellItems}
 use Rattle.pol_ledger.specs.Work.{HasPlace, ledger_work}
 use Rattle.pol_record.specs.Texts.{event_text}
 
@@ -159,12 +161,30 @@ one_sum (x ∷ xs) (y ∷ ys) form form' same =
     one_before xs ys x y form form' (one_sum xs ys form.2 form'.2)
     (same_sealed (sum_back xs ++ body_of x) (sum_back ys ++ body_of y) same)
 
--- where two images stand for ledgers with one sum, they stand for the same items
-pub sums_tell : SumsTellItems
-sums_tell image other items others stands stands' same = by_sum (one_sum (turned_onto items []) (turned_onto others [])
-    (in_form [] items stands.texts [] refl tt stands.are) (in_form [] others stands'.texts [] refl tt stands'.are)
+-- where lists of items with texts have one sum, they are the same
+texts_tell : (items others : List PlainItem) (texts more : List (List ℕ)) → AreTextsOf ledger_work [] items texts →
+    AreTextsOf ledger_work [] others more → sum_of items ≡ sum_of others → (items ≡ others) ⊎ HasCollision
+texts_tell items others texts more are are' same = by_sum (one_sum (turned_onto items []) (turned_onto others [])
+    (in_form [] items texts [] refl tt are) (in_form [] others more [] refl tt are')
     (sym (sum_turned items []) ∙ same ∙ sum_turned others []))
   where
     by_sum : (turned_onto items [] ≡ turned_onto others []) ⊎ HasCollision → (items ≡ others) ⊎ HasCollision
     by_sum (inl one) = inl (turned_one items others one)
     by_sum (inr two) = inr two
+
+-- so where two images stand for ledgers with one sum, they stand for the same items
+pub sums_tell : SumsTellItems
+sums_tell image other items others stands stands' same =
+    texts_tell items others stands.texts stands'.texts stands.are stands'.are same
+
+-- and where one record follows both
+pub follows_one : RecordsFollowOne
+follows_one image other items others stands stands' one last text is is' =
+    by_items (texts_tell (items ++ one ∷ []) (others ++ last ∷ []) (stands.texts ++ text ∷ [])
+    (stands'.texts ++ text ∷ []) (texts-push ledger_work [] items stands.texts one text stands.are is)
+    (texts-push ledger_work [] others stands'.texts last text stands'.are is')
+    (sym (sum_of_text items one text is.written) ∙ sum_of_text others last text is'.written))
+  where
+    by_items : (items ++ one ∷ [] ≡ others ++ last ∷ []) ⊎ HasCollision → (items ≡ others) ⊎ HasCollision
+    by_items (inl same) = inl (same_from_push items others one last same).0
+    by_items (inr two) = inr two

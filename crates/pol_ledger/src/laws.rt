@@ -2,7 +2,7 @@
 ghost use Rattle.std.specs.Prelude.{◌≡◌, ℕ, List};
 ghost use Rattle.pol_kept.specs.Stands.{StandsFor};
 ghost use Rattle.pol_ledger.specs.Items.{PlainItem};
-ghost use Rattle.pol_ledger.specs.Told.{SumsTellItems};
+ghost use Rattle.pol_ledger.specs.Told.{RecordsFollowOne, SumsTellItems};
 ghost use Rattle.pol_ledger.specs.Work.{ledger_work};
 
 /// An image stands for at most one list of items.
@@ -15,4 +15,10 @@ pub fn images_stand_for_one_ledger()
 /// SHA-256.
 pub fn sums_tell_items()
     ensures { SumsTellItems }
+{}
+
+/// A record follows the items of one ledger, as long as nobody has two messages with one SHA-256: so records that are put
+/// together from two ledgers don't follow.
+pub fn records_follow_one_ledger()
+    ensures { RecordsFollowOne }
 {}

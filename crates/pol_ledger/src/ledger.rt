@@ -106,6 +106,19 @@ impl Ledger {
         self.build.as_ref()
     }
 
+    /// The plant, once the ledger is done with.
+    pub fn into_plant(self) -> Plant
+        ensures { result ≡ self.plant }
+    {
+        let Ledger {
+            plant,
+            names: _,
+            build: _,
+            sum: _,
+        } = self;
+        plant
+    }
+
     /// Whether a header began it.
     pub fn is_begun(&self) -> bool
         ensures { result ≡ is_some (ledger_state self.now) }

@@ -67,6 +67,7 @@ pub fn open<D: Disk>(alloc: Global, disk: D) -> Result<(Kept<D, Ledger>, Vec<u8>
     ensures left_err { (all now : List ℕ) → D.bytes disk ≡ Some all → IfErr result (λ back.
         D.bytes back.0 ≡ Some now
         → LeavesOnly D.moment D.left_since disk back.0 (MayBeLeft all (D.images disk))) }
+    ensures image { OnOk result ((all : List ℕ) → D.bytes disk ≡ Some all → D.images disk all) }
     ensures on { IfOk result (λ made. ToldOn (D.bytes disk) (D.bytes made.0.disk)) }
     ensures on_err { IfErr result (λ back. ToldOn (D.bytes disk) (D.bytes back.0)) }
     ensures quiet { IfOk result (λ made. D.faults made.0.disk ≡ D.faults disk) }
