@@ -156,10 +156,11 @@ skipped : (test : List ℕ → Bool) (front back : List (List ℕ)) (out : List 
 skipped test [] back out fails = rw fails refl
 skipped test (word ∷ front) back out fails = ap (λ found. test word || found) (skipped test front back out fails)
 
--- the keys of a command of the desk that names its person, in front of `by` and behind it
+-- the keys of a command of the desk that names its person: those in front of `by`
 abbrev front_words : List (List ℕ)
 front_words = codes "ev" ∷ codes "at" ∷ []
 
+-- those behind it
 abbrev back_words : List (List ℕ)
 back_words = codes "tag" ∷ codes "service" ∷ codes "CommandOp" ∷ []
 

@@ -2,9 +2,9 @@
 //!
 //! `read_named` gives the event that a line says and who gives it, or the first fault in reading order
 //! (`specs/Named.antt`): `by` is asked behind the kind and the stamp, and the rest, without `by`, is read as a line of
-//! a journal. So a line that names nobody says what it says in a journal (`unnamed_lines_are_alike`), and a line that is
-//! read under a policy says the same here (`desk_lines_are_alike`, `guarded_lines_are_alike`); and whoever is said to
-//! give an event is whom `by` names (`persons_are_named`), someone for each command of the desk
+//! a journal. So a line that names nobody says what it says in a journal (`unnamed_lines_are_alike`), and a line that
+//! is read under a policy says the same here (`desk_lines_are_alike`, `guarded_lines_are_alike`); and whoever is said
+//! to give an event is whom `by` names (`persons_are_named`), someone for each command of the desk
 //! (`desk_commands_are_named`). `NamedLines` is this form of lines for the jobs over journals. What an event of each
 //! kind is the crate has from `event_json`; it knows nothing of a plant or of a policy.
 //!

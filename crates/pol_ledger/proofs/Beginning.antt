@@ -99,7 +99,8 @@ module _ {D : Type 0} (bytes : D → Option (List ℕ)) (images : D → List ℕ
       StandsFor ledger_work (items_of found) all) where
     pub leaves_opened : ((all : List ℕ) → bytes store.disk ≡ Some all →
         LeavesOnly moment left_since store.disk new (StandsOrBegins found)) → (all now : List ℕ) →
-        bytes first ≡ Some all → bytes new ≡ Some now → LeavesOnly moment left_since first new (MayBeLeft all (images first))
+        bytes first ≡ Some all → bytes new ≡ Some now →
+        LeavesOnly moment left_since first new (MayBeLeft all (images first))
     leaves_opened begins all now told told' =
         let mid = was_told (bytes store.disk) (bytes new) on now told' in
         (then) moment left_since first store.disk new (MayBeLeft all (images first)) (StandsOrBegins found)

@@ -132,7 +132,8 @@ one_before : (xs ys : List PlainItem) (x y : PlainItem) → AreInForm (x ∷ xs)
     (sum_back xs ≡ sum_back ys → (xs ≡ ys) ⊎ HasCollision) →
     (sum_back xs ++ body_of x ≡ sum_back ys ++ body_of y) ⊎ HasCollision → (x ∷ xs ≡ y ∷ ys) ⊎ HasCollision
 one_before xs ys x y form form' next (inr two) = inr two
-one_before [] [] x y form form' next (inl same) = inl (ap (λ (z : PlainItem). z ∷ []) (one_body x y form.0 form'.0 same))
+one_before [] [] x y form form' next (inl same) =
+    inl (ap (λ (z : PlainItem). z ∷ []) (one_body x y form.0 form'.0 same))
 one_before [] (last ∷ ys) (header build) (asked one) form form' next (inl same) =
     absurd (not_behind build (sum_back (last ∷ ys)) (who_bytes one.by ++ event_text one.event) form.0
     (length-sum (sum_back ys) (body_of last)) same)

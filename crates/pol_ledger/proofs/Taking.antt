@@ -24,6 +24,7 @@ sum_from_push : (before : List ℕ) (items : List PlainItem) (item : PlainItem) 
 sum_from_push before [] item = refl
 sum_from_push before (first ∷ items) item = sum_from_push (sum_after before (body_of first)) items item
 
+-- that of a ledger too
 pub sum_push : (items : List PlainItem) (item : PlainItem) →
     sum_of (items ++ item ∷ []) ≡ sum_after (sum_of items) (body_of item)
 sum_push items item = sum_from_push [] items item

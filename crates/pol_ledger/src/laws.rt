@@ -17,8 +17,8 @@ pub fn sums_tell_items()
     ensures { SumsTellItems }
 {}
 
-/// A record follows the items of one ledger, as long as nobody has two messages with one SHA-256: so records that are put
-/// together from two ledgers don't follow.
+/// A record follows the items of one ledger, as long as nobody has two messages with one SHA-256: so records that are
+/// put together from two ledgers don't follow.
 pub fn records_follow_one_ledger()
     ensures { RecordsFollowOne }
 {}

@@ -8,8 +8,10 @@
 //! shows that. For `sums_tell_items` says that the sum of the last record tells all items, as long as nobody has two
 //! messages with one SHA-256.
 //!
-//! The other main contracts are those of `open` and of the `Chronicle` methods of `Ledger`. It knows nothing of files, of
-//! lines of input, or of whether who asked may.
+//! The other main contracts are those of `open` and of the `Chronicle` methods of `Ledger`. It knows nothing of files,
+//! of lines of input, or of whether who asked may. No job uses it yet.
+//!
+//! Tried in `ledger_examples`.
 #![tactic(auto)]
 
 mod bodies;
