@@ -10,8 +10,6 @@
 //!
 //! The other main contracts are those of `open` and of the `Chronicle` methods of `Ledger`. It knows nothing of files,
 //! of lines of input, or of whether who asked may. No job uses it yet.
-//!
-//! Tried in `ledger_examples`.
 #![tactic(auto)]
 
 mod bodies;
