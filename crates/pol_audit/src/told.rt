@@ -55,8 +55,8 @@ impl<T: Copy + Drop> Told<T> {
         Ok(())
     }
 
-    /// Takes what is told under a tag, if there is one: all before is forgotten where its module was moved, else one more
-    /// name and what is told of it may come.
+    /// Takes what is told under a tag, if there is one: all before is forgotten where its module was moved, else one
+    /// more name and what is told of it may come.
     #[tactic(auto, using(crate::proofs::Telling::one_told, crate::proofs::Telling::none_told))]
     pub fn tell(
         &mut self,

@@ -48,9 +48,11 @@ after_rows history bad (piece ∷ parts) few =
         after_all find_work (record { history = later; bad = count }) parts ≡ known_after later count parts) →
         after_all find_work (after_saying (record { history = history; bad = bad }) meaning) parts
         ≡ record {
-          history = history_after history (events_in (as_input_line piece (in_journal meaning) ∷ map input_line_of parts));
+          history = history_after history
+              (events_in (as_input_line piece (in_journal meaning) ∷ map input_line_of parts));
           bad = min
-              (bad + length (filter is_at_fault (as_input_line piece (in_journal meaning) ∷ map input_line_of parts))) greatest_u64;
+              (bad + length (filter is_at_fault
+                  (as_input_line piece (in_journal meaning) ∷ map input_line_of parts))) greatest_u64;
         }
     by_meaning Nothing rest = rest history bad few
     by_meaning (Said event) rest = rest (recorded (entry_of history event) history) bad few

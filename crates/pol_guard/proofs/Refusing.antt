@@ -147,4 +147,8 @@ said_well (Err fault) faultless = absurd (faultless fault refl)
 -- inputs are refused for the faults of their policies
 pub refusals : RefusalsAreFaults
 refusals =
-    record { refused = refused; unwritten = unwritten; accepted = λ bytes accepts. said_well (policy_of bytes) accepts.1 }
+    record {
+      refused = refused;
+      unwritten = unwritten;
+      accepted = λ bytes accepts. said_well (policy_of bytes) accepts.1;
+    }

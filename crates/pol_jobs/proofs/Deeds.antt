@@ -188,7 +188,8 @@ module _ {State Reason Job : Type 0} (work : LineWork State Reason) (Did : Deeds
   -- ---- lines that were replied to
 
   -- where the next line is replied to as it should be, it is one more of those that wait
-  line_served : (Failure : Type 0) (now next : Moment State) (held held' : Option (List ℕ)) (buffer bytes text rest reply : List ℕ)
+  line_served : (Failure : Type 0) (now next : Moment State) (held held' : Option (List ℕ))
+      (buffer bytes text rest reply : List ℕ)
       (settled waiting : List Line) (one : Line) →
       ServedLines work settled waiting first now held held' buffer bytes text →
       Replies {Failure = Failure} work now.state next.state next.lines.ended (Some (Ok tt)) reply one text rest →
@@ -205,12 +206,14 @@ module _ {State Reason Job : Type 0} (work : LineWork State Reason) (Did : Deeds
       })
 
   -- the same, where the source tells its bytes
-  pub served_on : {Failure : Type 0} (job job' : Job) (now next : Moment State) (held held' : Option (List ℕ)) (buffer more : List ℕ)
+  pub served_on : {Failure : Type 0} (job job' : Job) (now next : Moment State) (held held' : Option (List ℕ))
+      (buffer more : List ℕ)
       (made : Result (Unit {0}) (Stop Reason Failure)) (reply : List ℕ) → more ≡ buffer ++ reply → IsOk made →
       HasServed work (Did start job) first now held held' buffer →
       IsNext work Did job job' now next (Some made) reply →
       HasServed work (Did start job') first next held held' more
-  served_on {Failure = Failure} job job' now next held held' buffer more made reply more_is ok has is_next = rw more_is (record {
+  served_on {Failure = Failure} job job' now next held held' buffer more made reply more_is ok has is_next =
+      rw more_is (record {
     settled = has.settled;
     waiting = has.waiting ++ is_next.next ∷ [];
     did = subst (Did start job' has.settled (has.waiting ++ is_next.next ∷ [])) (made_ok made ok)
@@ -230,12 +233,14 @@ module _ {State Reason Job : Type 0} (work : LineWork State Reason) (Did : Deeds
       known_bytes (Some bytes) (Some text) None made so_far replied ok = absurd replied
       known_bytes (Some bytes) (Some text) (Some rest) (Err error) so_far replied ok = cc
       known_bytes (Some bytes) (Some text) (Some rest) (Ok done) so_far replied ok =
-          line_served Failure now next held held' buffer bytes text rest reply has.settled has.waiting is_next.next so_far
-          replied
+          line_served Failure now next held held' buffer bytes text rest reply has.settled has.waiting is_next.next
+          so_far replied
 
   -- the end was seen behind them
-  pub served_last : {Failure : Type 0} (job job' : Job) (now last : Moment State) (held held' : Option (List ℕ)) (buffer reply : List ℕ) →
-      HasServed work (Did start job) first now held held' buffer → IsNext {Failure = Failure} work Did job job' now last None reply →
+  pub served_last : {Failure : Type 0} (job job' : Job) (now last : Moment State) (held held' : Option (List ℕ))
+      (buffer reply : List ℕ) →
+      HasServed work (Did start job) first now held held' buffer →
+      IsNext {Failure = Failure} work Did job job' now last None reply →
       HasServed work (Did start job') first last held held' buffer
   unfolding served_end
   served_last job job' now last held held' buffer reply has is_next = record {
@@ -320,7 +325,8 @@ module _ {State Reason Job : Type 0} (work : LineWork State Reason) (Did : Deeds
   }
 
   -- the next line was met, and no more
-  did_met : {Failure : Type 0} (job job' last : Job) (now next : Moment State) (held held' : Option (List ℕ)) (buffer : List ℕ)
+  did_met : {Failure : Type 0} (job job' last : Job) (now next : Moment State) (held held' : Option (List ℕ))
+      (buffer : List ℕ)
       (made : Result (Unit {0}) (Stop Reason Failure)) (out : List ℕ) (whole : Bool) →
       (has : HasServed work (Did start job) first now held held' buffer) →
       (is_next : IsNext work Did job job' now next (Some made) out) →
@@ -340,7 +346,8 @@ module _ {State Reason Job : Type 0} (work : LineWork State Reason) (Did : Deeds
   }
 
   -- there was no memory to hold the reply to it
-  pub did_unheld : {Failure : Type 0} (job job' : Job) (now next : Moment State) (held held' : Option (List ℕ)) (buffer : List ℕ)
+  pub did_unheld : {Failure : Type 0} (job job' : Job) (now next : Moment State) (held held' : Option (List ℕ))
+      (buffer : List ℕ)
       (made : Result (Unit {0}) (Stop Reason Failure)) (out : List ℕ) →
       HasServed work (Did start job) first now held held' buffer →
       IsNext work Did job job' now next (Some made) out →
@@ -350,7 +357,8 @@ module _ {State Reason Job : Type 0} (work : LineWork State Reason) (Did : Deeds
       (is_next.did start has.settled has.waiting has.did)
 
   -- the lines before it were settled, and the job had stopped there
-  did_stopped : {Failure : Type 0} (job job' last : Job) (now next : Moment State) (held between held' : Option (List ℕ))
+  did_stopped : {Failure : Type 0} (job job' last : Job) (now next : Moment State)
+      (held between held' : Option (List ℕ))
       (buffer : List ℕ) (made : Result (Unit {0}) (Stop Reason Failure)) (out : List ℕ) →
       (has : HasServed work (Did start job) first now held between buffer) →
       (is_next : IsNext work Did job job' now next (Some made) out) →
@@ -371,7 +379,8 @@ module _ {State Reason Job : Type 0} (work : LineWork State Reason) (Did : Deeds
   }
 
   -- the job stopped at the next line
-  stops_at : {Failure : Type 0} (halt : Stop Reason Failure) (job job' : Job) (now next : Moment State) (held between : Option (List ℕ))
+  stops_at : {Failure : Type 0} (halt : Stop Reason Failure) (job job' : Job) (now next : Moment State)
+      (held between : Option (List ℕ))
       (buffer : List ℕ) (made : Result (Unit {0}) (Stop Reason Failure)) (out : List ℕ) → made ≡ Err halt →
       (has : HasServed work (Did start job) first now held between buffer) →
       (is_next : IsNext work Did job job' now next (Some made) out) →
@@ -381,7 +390,8 @@ module _ {State Reason Job : Type 0} (work : LineWork State Reason) (Did : Deeds
       (is_next.did start has.settled has.waiting has.did)
 
   -- and the replies to those before it were put out
-  pub did_stop : {Failure : Type 0} (each : Bool) (halt : Stop Reason Failure) (job job' last : Job) (now next : Moment State)
+  pub did_stop : {Failure : Type 0} (each : Bool) (halt : Stop Reason Failure) (job job' last : Job)
+      (now next : Moment State)
       (held between held' : Option (List ℕ)) (buffer : List ℕ) (made : Result (Unit {0}) (Stop Reason Failure))
       (out : List ℕ) → made ≡ Err halt → HasServed work (Did start job) first now held between buffer →
       IsNext work Did job job' now next (Some made) out → PutsBefore Did each job' last between held' buffer →
@@ -396,7 +406,8 @@ module _ {State Reason Job : Type 0} (work : LineWork State Reason) (Did : Deeds
       (all_written between held' buffer puts.1.written)
 
   -- or not all of them
-  pub did_stop_part : {Failure : Type 0} (each : Bool) (halt : Stop Reason Failure) (job job' last : Job) (now next : Moment State)
+  pub did_stop_part : {Failure : Type 0} (each : Bool) (halt : Stop Reason Failure) (job job' last : Job)
+      (now next : Moment State)
       (held between held' : Option (List ℕ)) (buffer : List ℕ) (made : Result (Unit {0}) (Stop Reason Failure))
       (out : List ℕ) → made ≡ Err halt → HasServed work (Did start job) first now held between buffer →
       IsNext work Did job job' now next (Some made) out → each ≡ false →

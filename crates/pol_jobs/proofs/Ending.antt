@@ -14,7 +14,8 @@ use Rattle.pol_jobs.specs.declared.fault.JobFault.TheVariants.{Read, Write, Memo
 use Rattle.pol_jobs.proofs.Accepting.{not_accepted}
 
 -- what is refused isn't accepted
-refused_not : {Reason : Type 0} (output : Output Reason) (sink sink' : Edge) (reason : Reason) (bytes left : List ℕ) → IsRefused output reason sink.bytes sink'.bytes bytes left →
+refused_not : {Reason : Type 0} (output : Output Reason) (sink sink' : Edge) (reason : Reason) (bytes left : List ℕ) →
+    IsRefused output reason sink.bytes sink'.bytes bytes left →
     ¬ AcceptsAll output bytes
 refused_not output sink sink' reason bytes left (refused_line line) accepted =
     not_accepted output bytes line.done line.piece _ reason line.is_line line.refuses accepted.0
@@ -41,7 +42,8 @@ module _ {Reason Failure : Type 0} (output : Output Reason) (source source' sink
       (leaves, read.other (λ same. cc), wrote.other (λ same. cc))
 
   -- with no fault of source or sink, and an input that fits, the result is the one that is due
-  pub completes : (result : Result (Unit {0}) (JobFault Reason Failure)) → Ends output source source' sink sink' result →
+  pub completes : (result : Result (Unit {0}) (JobFault Reason Failure)) →
+      Ends output source source' sink sink' result →
       Completes output source source' sink sink' result
   completes (Ok done) ends unread unwritten =
       between_weaker _ _ source.bytes source'.bytes (λ bytes left writes fits. writes.accepted) ends.0
@@ -59,6 +61,7 @@ module _ {Reason Failure : Type 0} (output : Output Reason) (source source' sink
       too_long P (Some bytes) None known much = absurd known
       too_long P (Some bytes) (Some left) known much = λ fits. omega arith
   completes (Err (Refused reason)) ends unread unwritten =
-      between_weaker _ _ source.bytes source'.bytes (λ bytes left refused fits. refused_not output sink sink' reason bytes left
+      between_weaker _ _ source.bytes source'.bytes (λ bytes left refused fits.
+          refused_not output sink sink' reason bytes left
       refused)
       ends.0

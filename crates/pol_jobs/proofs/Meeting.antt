@@ -39,7 +39,8 @@ behind_nothing (Ok done) out old reply empty is = is ∙ ap (λ old. old ++ repl
 behind_nothing (Err stop) out old reply empty is = tt
 
 module _ {State Reason Failure Job : Type 0} (work : LineWork State Reason) (Did : Deeds Job) (job job' : Job)
-    (before now : Moment State) (made : Result (Unit {0}) (Stop Reason Failure)) (old out : List ℕ) (empty : old ≡ []) where
+    (before now : Moment State) (made : Result (Unit {0}) (Stop Reason Failure)) (old out : List ℕ) (empty : old ≡ [])
+        where
   -- a line was met
   met_so : (one : Line) → OnOk made (out ≡ old ++ work.reply before.state one) →
       OnOk made (now.state ≡ work.after before.state one) → OnOk made (Accepts work before.state one) →

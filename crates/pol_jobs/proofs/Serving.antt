@@ -131,9 +131,11 @@ much_counted first now left fresh moves stops =
     (rw (stops.too_much refl).0 at stops.counted)
 
 -- so the input has more
-pub too_much_counted : {State Reason Failure : Type 0} (first now : Moment State) (left : Option (List ℕ)) (fault : IoFault) →
+pub too_much_counted : {State Reason Failure : Type 0} (first now : Moment State) (left : Option (List ℕ))
+    (fault : IoFault) →
     IsFresh first.lines → Moves first now →
-    Stops now.lines.taken (ahead now.lines now.left) now.left left fault → of_lines {Reason = Reason} {Failure = Failure} fault ≡ job_fault.TooMuch →
+    Stops now.lines.taken (ahead now.lines now.left) now.left left fault →
+    of_lines {Reason = Reason} {Failure = Failure} fault ≡ job_fault.TooMuch →
     IsTooMuch first.left
 too_much_counted first now left io_fault.Read fresh moves stops is = cc
 too_much_counted first now left io_fault.TooMuch fresh moves stops is = over first.left left
@@ -246,7 +248,8 @@ module _ {State Reason : Type 0} (work : LineWork State Reason) (start : State) 
       })) all
 
   -- the closing text was not written whole
-  pub unclosed : (Failure : Type 0) (fault : PutFault) (held between held' begin left : Option (List ℕ)) (state : State) →
+  pub unclosed : (Failure : Type 0) (fault : PutFault) (held between held' begin left : Option (List ℕ))
+      (state : State) →
       Between (Replied work start state held between) begin left → ClosesPart (work.Closing state) between held' →
       Between (Leaves {Failure = Failure} (output_by work start) held held' (of_output fault)) begin left
   unclosed Failure put_fault.Write held between held' begin left state all part =
@@ -266,7 +269,8 @@ module _ {State Reason : Type 0} (work : LineWork State Reason) (start : State) 
       })) all
 
   -- the job stopped at the end of its input: there was no memory, or it failed, or it refuses it
-  pub end_stopped : {Failure : Type 0} (halt : Stop Reason Failure) (held held' begin left : Option (List ℕ)) (state : State) →
+  pub end_stopped : {Failure : Type 0} (halt : Stop Reason Failure) (held held' begin left : Option (List ℕ))
+      (state : State) →
       Between (Replied work start state held held') begin left → RefusedFor (work.RefusesEnd state) halt →
       Between (Leaves (output_by work start) held held' (of_stop halt)) begin left
   end_stopped stop.Memory held held' begin left state all refuses = end_reached held held' begin left state all
@@ -482,7 +486,8 @@ module _ {State Reason : Type 0} (work : LineWork State Reason) (first : Moment 
       }) served)
 
   -- the next line was met, and the reply to it wasn't written
-  part_before : {Failure : Type 0} (now next : Moment State) (held between held' : Option (List ℕ)) (buffer : List ℕ) (one : Line)
+  part_before : {Failure : Type 0} (now next : Moment State) (held between held' : Option (List ℕ)) (buffer : List ℕ)
+      (one : Line)
       (made : Result (Unit {0}) (Stop Reason Failure)) (out : List ℕ) → IsFresh first.lines →
       IsServed work first now held between buffer →
       Between (Replies work now.state next.state next.lines.ended (Some made) out one) (ahead now.lines now.left)
@@ -534,9 +539,11 @@ module _ {State Reason : Type 0} (work : LineWork State Reason) (first : Moment 
   some_part Did each job job' between held' buffer (inr put) = rw put.1 (nothing_written between buffer)
 
   -- the job refused its input with the next line
-  stopped_refused : (Failure : Type 0) (now next : Moment State) (reason : Reason) (held held' : Option (List ℕ)) (one : Line)
+  stopped_refused : (Failure : Type 0) (now next : Moment State) (reason : Reason) (held held' : Option (List ℕ))
+      (one : Line)
       (out : List ℕ) → IsFresh first.lines → IsServed work first now held held' [] →
-      Between (Replies {Failure = Failure} work now.state next.state next.lines.ended (Some (Err (stop.Refused reason))) out one)
+      Between (Replies {Failure = Failure} work now.state next.state next.lines.ended
+          (Some (Err (stop.Refused reason))) out one)
       (ahead now.lines now.left) (ahead next.lines next.left) → Moves first next →
       Between (IsRefused (output_by work first.state) reason held held') first.left next.left
   stopped_refused Failure now next reason held held' one out fresh served replied_so moves =
@@ -562,7 +569,8 @@ module _ {State Reason : Type 0} (work : LineWork State Reason) (first : Moment 
 
       known_bytes : (ended : Bool) (begin text : Option (List ℕ)) (waiting : List ℕ) (left : Option (List ℕ)) →
           Between (Served work first now held held' []) begin text →
-          Between (Replies {Failure = Failure} work now.state next.state ended (Some (Err (stop.Refused reason))) out one) text
+          Between (Replies {Failure = Failure} work now.state next.state ended
+              (Some (Err (stop.Refused reason))) out one) text
           (joined ended waiting left) →
           Between (Counts first.lines.taken next.lines.taken) begin left → (IsTrue ended → waiting ≡ []) →
           (IsTrue ended → Between IsRead begin left) →
@@ -609,13 +617,15 @@ module _ {State Reason : Type 0} (work : LineWork State Reason) (first : Moment 
 
   -- those that waited when a line stopped the job
   pub unput_before : {Job Failure : Type 0} (Did : Deeds Job) (each : Bool) (job job' : Job) (So : Type 0)
-      (fault : JobFault Reason Failure) → IsOfPutting So fault → (now next : Moment State) (held between held' : Option (List ℕ)) (buffer : List ℕ) (one : Line)
+      (fault : JobFault Reason Failure) → IsOfPutting So fault → (now next : Moment State)
+          (held between held' : Option (List ℕ)) (buffer : List ℕ) (one : Line)
       (made : Result (Unit {0}) (Stop Reason Failure)) (out : List ℕ) → IsFresh first.lines →
       IsServed work first now held between buffer →
       Between (Replies work now.state next.state next.lines.ended (Some made) out one) (ahead now.lines now.left)
       (ahead next.lines next.left) → Moves first next → PutsPart Did each job job' between held' buffer →
       Between (Leaves (output_by work first.state) held held' fault) first.left next.left
-  unput_before Did each job job' So fault is now next held between held' buffer one made out fresh served replied_so moves
+  unput_before Did each job job' So fault is now next held between held' buffer one made out fresh served replied_so
+      moves
       puts =
       output_leaves (output_by work first.state) held held' first.left next.left So fault is
       (part_before now next held between held' buffer one made out fresh served replied_so moves
@@ -623,15 +633,18 @@ module _ {State Reason : Type 0} (work : LineWork State Reason) (first : Moment 
 
   -- those that waited
   pub unput : {Job Failure : Type 0} (Did : Deeds Job) (each : Bool) (job job' : Job) (So : Type 0)
-      (fault : JobFault Reason Failure) → IsOfPutting So fault → (now : Moment State) (held between held' : Option (List ℕ)) (buffer : List ℕ) → IsFresh first.lines →
+      (fault : JobFault Reason Failure) → IsOfPutting So fault → (now : Moment State)
+          (held between held' : Option (List ℕ)) (buffer : List ℕ) → IsFresh first.lines →
       IsServed work first now held between buffer → Moves first now → PutsPart Did each job job' between held' buffer →
       Between (Leaves (output_by work first.state) held held' fault) first.left now.left
   unput Did each job job' So fault is now held between held' buffer fresh served moves puts =
       output_leaves (output_by work first.state) held held' first.left now.left So fault is
-      (part_put now held between held' buffer fresh served moves (some_part Did each job job' between held' buffer puts))
+      (part_put now held between held' buffer fresh served moves
+          (some_part Did each job job' between held' buffer puts))
 
   -- none at all: there was no memory to hold one more
-  pub unheld : {Failure : Type 0} (now next : Moment State) (held held' : Option (List ℕ)) (buffer : List ℕ) (one : Line)
+  pub unheld : {Failure : Type 0} (now next : Moment State) (held held' : Option (List ℕ)) (buffer : List ℕ)
+      (one : Line)
       (made : Result (Unit {0}) (Stop Reason Failure)) (out : List ℕ) → IsFresh first.lines →
       IsServed work first now held held' buffer →
       Between (Replies work now.state next.state next.lines.ended (Some made) out one) (ahead now.lines now.left)
@@ -671,7 +684,8 @@ module _ {State Reason : Type 0} (work : LineWork State Reason) (first : Moment 
       no_feeds false false unended none = cc
 
       empty : (source left : List ℕ) →
-          Stops now.lines.taken (joined now.lines.ended now.lines.waiting (Some source)) (Some source) (Some left) fault →
+          Stops now.lines.taken (joined now.lines.ended now.lines.waiting (Some source)) (Some source) (Some left)
+              fault →
           (IsTrue (needs_no_source now.lines) → Some left ≡ Some source) → (next : Bool) →
           needs_no_source now.lines ≡ next → buffer ≡ []
       empty source left stops unasked false is = idle is

@@ -24,8 +24,8 @@ pub record MetFirst {State Reason : Type 0} (work : LineWork State Reason) (star
   pub waiting_are : waiting ≡ map line_met later
   pub written : ((later ≡ []) × (others ≡ [])) ⊎ WritesSome held held' (replies work start first)
 
--- The job refused its input for this reason, behind these lines: with the next one, or at the end. Exactly the replies to
--- these lines were written, whatever the source told of its bytes.
+-- The job refused its input for this reason, behind these lines: with the next one, or at the end. Exactly the
+-- replies to these lines were written, whatever the source told of its bytes.
 pub record RefusesBehind {State Reason : Type 0} (work : LineWork State Reason) (start : State)
     (held held' : Option (List ℕ)) (reason : Reason) : Type 0 where
   pub lines : List Line

@@ -112,8 +112,8 @@ Replies work before now ended (Some made) reply next text rest =
     (line : List ℕ) × IsFirstLine ended line text rest × Met work before now made reply (met line) × (next ≡ met line)
 
 -- what else the job did with the next line; nothing at the end
-abbrev pub DidNext : {Job Reason Failure : Type 0} → Deeds Job → Job → Job → Option (Result (Unit {0}) (Stop Reason Failure)) → Line
-    → Type 0
+abbrev pub DidNext : {Job Reason Failure : Type 0} → Deeds Job → Job → Job →
+    Option (Result (Unit {0}) (Stop Reason Failure)) → Line → Type 0
 DidNext Did job job' None next = job' ≡ job
 DidNext Did job job' (Some made) next = Meets Did job job' next (is_ok made)
 
@@ -125,7 +125,8 @@ MetNext work before now (Some made) reply next = Met work before now made reply 
 
 -- one more line is read and replied to, or the end is seen
 pub record IsNext {State Reason Failure Job : Type 0} (work : LineWork State Reason) (Did : Deeds Job) (job job' : Job)
-    (before now : Moment State) (made : Option (Result (Unit {0}) (Stop Reason Failure))) (reply : List ℕ) : Type 0 where
+    (before now : Moment State) (made : Option (Result (Unit {0}) (Stop Reason Failure))) (reply : List ℕ)
+    : Type 0 where
   pub next : Line
   pub replies : Between (Replies work before.state now.state now.lines.ended made reply next)
       (ahead before.lines before.left) (ahead now.lines now.left)

@@ -32,8 +32,8 @@ pub trait LineJob {
     /// What may fail a job of this kind beside memory, its source and its sink: a disk; `Infallible` where nothing may.
     type Failure: Drop;
 
-    /// Whether each line is settled, and its reply written, before the next one is met, also where more lines stand there
-    /// already.
+    /// Whether each line is settled, and its reply written, before the next one is met, also where more lines stand
+    /// there already.
     const SETTLES_EACH: bool;
 
     /// The same, where contracts speak of it.
@@ -82,9 +82,11 @@ pub trait LineJob {
         ensures kept { state self.new ≡ state self.old }
         ensures has_failed { OnErr result (HasFailed self.new) }
         ensures failed_still { HasFailed self.old → HasFailed self.new }
-        ensures settled { OnOk result ((first : Self) (settled waiting : List Line) → Did first self.old settled waiting true
+        ensures settled { OnOk result ((first : Self) (settled waiting : List Line) →
+            Did first self.old settled waiting true
             → Did first self.new (settled ++ waiting) [] true) }
-        ensures failed { OnErr result ((first : Self) (settled waiting : List Line) → Did first self.old settled waiting true
+        ensures failed { OnErr result ((first : Self) (settled waiting : List Line) →
+            Did first self.old settled waiting true
             → Did first self.new settled waiting false) }
         ensures settled_before { OnOk result (SETTLES_EACH ≡ false
             → (first : Self) (settled waiting : List Line) (last : Line)

@@ -89,8 +89,8 @@ impl Slot {
     /// Ends the exchange: another module, with this description, is docked in place of the one that is away. Nothing
     /// was reported of it yet.
     ///
-    /// `NotInExchange` while the module is docked, `WrongTicket` with both tickets where the given one isn't that of the
-    /// exchange; else `Memory` for want of memory. After each the slot is unchanged.
+    /// `NotInExchange` while the module is docked, `WrongTicket` with both tickets where the given one isn't that of
+    /// the exchange; else `Memory` for want of memory. After each the slot is unchanged.
     #[tactic(auto, unfolding(crate::specs::Slots::last_control, crate::specs::Slots::last_value))]
     pub fn finish(&mut self, ticket: u32, description: Arc<Description>) -> Result<(), SlotRefusal>
         ensures accepted { OnOk result (ticket_rule ticket (slot_ticket self.old) ≡ None) }
@@ -116,8 +116,8 @@ impl Slot {
     /// Cancels the exchange: the module that is away is docked again, with its old description. Nothing was reported
     /// since.
     ///
-    /// `NotInExchange` while the module is docked, `WrongTicket` with both tickets where the given one isn't that of the
-    /// exchange; then the slot is unchanged.
+    /// `NotInExchange` while the module is docked, `WrongTicket` with both tickets where the given one isn't that of
+    /// the exchange; then the slot is unchanged.
     #[tactic(auto, unfolding(crate::specs::Slots::last_control, crate::specs::Slots::last_value))]
     pub fn cancel(&mut self, ticket: u32) -> Result<(), Rule>
         ensures answer { result ≡ done_unless (ticket_rule ticket (slot_ticket self.old)) }

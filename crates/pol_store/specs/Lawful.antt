@@ -48,9 +48,11 @@ one_event text x y is is' = ok_same x y (sym is.reads ∙ is'.reads)
 -- an event that is kept is the last one, one that isn't changes nothing, and a text is that of one event
 pub plants_are_lawful : IsLawful plant_work
 plants_are_lawful = record {
-  grows = λ history event is. ap events_of (recorded_is history event is) ∙ events-cons (entry_of history event) history;
+  grows = λ history event is. ap events_of (recorded_is history event is) ∙ events-cons (entry_of history event)
+      history;
   stays = λ history event is. rw is refl;
-  has_room = λ history event text is room. let same = length-events history in room_recorded history event (omega (arith, same, room));
+  has_room = λ history event text is room. let same = length-events history in room_recorded history event
+      (omega (arith, same, room));
   one_item = λ before one other text is is'. one_event text one other is is';
 }
 

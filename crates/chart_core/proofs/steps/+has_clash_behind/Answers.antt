@@ -9,7 +9,8 @@ pub returns-in-Seq : goal.returns-in-Seq
 returns-in-Seq t c =
     let kids = trees c.in-Seq.field-0.items in
     let laid : plain_node c.args.node.now ≡ seq kids =
-    ap plain_node (c.in-Seq.is ∙ sym (rolls-Seq c.in-Seq.field-0)) ∙ fold-roll-Node Tree PlainArm node_step arm_step _ in
+    ap plain_node (c.in-Seq.is ∙ sym (rolls-Seq c.in-Seq.field-0))
+    ∙ fold-roll-Node Tree PlainArm node_step arm_step _ in
     λ place behind. rw laid (sym (behind_in_turn kids (place - 1) c.args.role c.args.service
     (omega (arith, rw laid at behind))))
 
@@ -26,6 +27,7 @@ pub returns-in-Sel : goal.returns-in-Sel
 returns-in-Sel t c =
     let each = arms c.in-Sel.field-0.items in
     let laid : plain_node c.args.node.now ≡ choice each =
-    ap plain_node (c.in-Sel.is ∙ sym (rolls-Sel c.in-Sel.field-0)) ∙ fold-roll-Node Tree PlainArm node_step arm_step _ in
+    ap plain_node (c.in-Sel.is ∙ sym (rolls-Sel c.in-Sel.field-0))
+    ∙ fold-roll-Node Tree PlainArm node_step arm_step _ in
     λ place behind. rw laid (sym (behind_in_arms each (place - 1) c.args.role c.args.service
     (omega (arith, rw laid at behind))))

@@ -106,7 +106,8 @@ returns-in_err-put_before_stop-clause-leaves g c =
     let invariant = c.loop-replies.invariant in
     let next = rw c.in-Some.is at c.in_ok-made.ensures.next in
     rw (fault.1, fault.2) (unput_before g.J.LineJob.work _ g.J.LineJob.Did g.J.LineJob.SETTLES_EACH c.next_reply.new.job
-    c.put_before_stop.new.job _ _ c.in_err-put_before_stop.ensures.fault _ _ _ _ _ c.loop-replies.replies.items next.next
+    c.put_before_stop.new.job _ _ c.in_err-put_before_stop.ensures.fault _ _ _ _ _ c.loop-replies.replies.items
+        next.next
     c.in-Some.made _ c.requires
     (are_served g.J.LineJob.work _ _ _ _ _ _ invariant.served) next.replies
     (moves_on _ _ _ invariant.moves c.in_ok-made.ensures.next.moves) c.in_err-put_before_stop.ensures.part.1)
@@ -176,7 +177,8 @@ returns-in_err-put_due-clause-leaves g c =
     ∙ ap (λ reply. c.loop-replies.replies.items ++ reply) c.deref.ensures.value) ok invariant.served
     (rw c.in-Some.is at c.in_ok-made.ensures.next) in
     rw (fault.1, fault.2) (unput g.J.LineJob.work first Did g.J.LineJob.SETTLES_EACH c.next_reply.new.job
-    c.put_due.new.job _ _ c.in_err-put_due.ensures.fault next (held c.args.sink.now) (held c.loop-replies.sink) (held c.put_due.new.sink) waits
+    c.put_due.new.job _ _ c.in_err-put_due.ensures.fault next (held c.args.sink.now) (held c.loop-replies.sink)
+        (held c.put_due.new.sink) waits
     c.requires (are_served g.J.LineJob.work (Did c.args.job.now c.next_reply.new.job) first next
     (held c.args.sink.now) (held c.loop-replies.sink) waits has)
     (moves_on first now next invariant.moves c.in_ok-made.ensures.next.moves) c.in_err-put_due.ensures.part)
@@ -222,7 +224,8 @@ returns-in_err-put_replies-clause-leaves g c =
     (held c.args.sink.now) (held c.loop-replies.sink) waits c.next_reply.new.out.items invariant.served
     (rw c.in_default.is at c.in_ok-made.ensures.next) in
     rw (fault.1, fault.2) (unput g.J.LineJob.work first Did g.J.LineJob.SETTLES_EACH c.next_reply.new.job
-    c.put_replies.new.job _ _ c.in_err-put_replies.ensures.fault next (held c.args.sink.now) (held c.loop-replies.sink) (held c.put_replies.new.sink) waits
+    c.put_replies.new.job _ _ c.in_err-put_replies.ensures.fault next (held c.args.sink.now) (held c.loop-replies.sink)
+        (held c.put_replies.new.sink) waits
     c.requires (are_served g.J.LineJob.work (Did c.args.job.now c.next_reply.new.job) first next
     (held c.args.sink.now) (held c.loop-replies.sink) waits has)
     (moves_on first now next invariant.moves c.in_ok-made.ensures.next.moves) c.in_err-put_replies.ensures.part)
