@@ -35,7 +35,7 @@ pub use blank::is_blank;
 pub use fault::{LineFault, LineRefusal};
 pub use fields::{Field, FieldValue, Fields, MOST_FIELDS};
 pub use guarded::{Guarded, read_guarded};
-pub use kind::EventKind;
+pub use kind::{EventKind, KindWords};
 pub use laws::lines_are_orderly;
 pub use reading::{event_from, read_event};
 pub use rule_table::{RuleRow, rule_row};

@@ -8,8 +8,8 @@ ghost use Rattle.mtp_json.specs.ReadsAs.{ReadsAs};
 ghost use Rattle.named_lines.specs.Named.{person_in, person_of};
 ghost use Rattle.named_lines.specs.Without.{without, without_member};
 
-use crate::kinds::{KindWords, is_desk};
-use event_json::EventKind;
+use crate::kinds::is_desk;
+use event_json::{EventKind, KindWords};
 use mtp_codes::Name;
 use mtp_json::{JsonRefusal, name_at, object_here, u64_at, word_at};
 use serde_json::{Map, Value};
