@@ -52,7 +52,7 @@ after_rows history bad (piece ∷ parts) few =
               (events_in (as_input_line piece (in_journal meaning) ∷ map input_line_of parts));
           bad = min
               (bad + length (filter is_at_fault
-                  (as_input_line piece (in_journal meaning) ∷ map input_line_of parts))) greatest_u64;
+              (as_input_line piece (in_journal meaning) ∷ map input_line_of parts))) greatest_u64;
         }
     by_meaning Nothing rest = rest history bad few
     by_meaning (Said event) rest = rest (recorded (entry_of history event) history) bad few

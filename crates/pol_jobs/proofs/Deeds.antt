@@ -214,13 +214,13 @@ module _ {State Reason Job : Type 0} (work : LineWork State Reason) (Did : Deeds
       HasServed work (Did start job') first next held held' more
   served_on {Failure = Failure} job job' now next held held' buffer more made reply more_is ok has is_next =
       rw more_is (record {
-    settled = has.settled;
-    waiting = has.waiting ++ is_next.next ∷ [];
-    did = subst (Did start job' has.settled (has.waiting ++ is_next.next ∷ [])) (made_ok made ok)
-        (is_next.did start has.settled has.waiting has.did);
-    served = known_bytes first.left (ahead now.lines now.left) (ahead next.lines next.left) made has.served
-        is_next.replies ok;
-  })
+        settled = has.settled;
+        waiting = has.waiting ++ is_next.next ∷ [];
+        did = subst (Did start job' has.settled (has.waiting ++ is_next.next ∷ [])) (made_ok made ok)
+            (is_next.did start has.settled has.waiting has.did);
+        served = known_bytes first.left (ahead now.lines now.left) (ahead next.lines next.left) made has.served
+            is_next.replies ok;
+      })
     where
       known_bytes : (begin text rest : Option (List ℕ)) (made : Result (Unit {0}) (Stop Reason Failure)) →
           Between (ServedLines work has.settled has.waiting first now held held' buffer) begin text →

@@ -62,6 +62,6 @@ module _ {Reason Failure : Type 0} (output : Output Reason) (source source' sink
       too_long P (Some bytes) (Some left) known much = λ fits. omega arith
   completes (Err (Refused reason)) ends unread unwritten =
       between_weaker _ _ source.bytes source'.bytes (λ bytes left refused fits.
-          refused_not output sink sink' reason bytes left
+      refused_not output sink sink' reason bytes left
       refused)
       ends.0

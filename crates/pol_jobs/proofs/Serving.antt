@@ -543,7 +543,7 @@ module _ {State Reason : Type 0} (work : LineWork State Reason) (first : Moment 
       (one : Line)
       (out : List ℕ) → IsFresh first.lines → IsServed work first now held held' [] →
       Between (Replies {Failure = Failure} work now.state next.state next.lines.ended
-          (Some (Err (stop.Refused reason))) out one)
+      (Some (Err (stop.Refused reason))) out one)
       (ahead now.lines now.left) (ahead next.lines next.left) → Moves first next →
       Between (IsRefused (output_by work first.state) reason held held') first.left next.left
   stopped_refused Failure now next reason held held' one out fresh served replied_so moves =
@@ -570,7 +570,7 @@ module _ {State Reason : Type 0} (work : LineWork State Reason) (first : Moment 
       known_bytes : (ended : Bool) (begin text : Option (List ℕ)) (waiting : List ℕ) (left : Option (List ℕ)) →
           Between (Served work first now held held' []) begin text →
           Between (Replies {Failure = Failure} work now.state next.state ended
-              (Some (Err (stop.Refused reason))) out one) text
+          (Some (Err (stop.Refused reason))) out one) text
           (joined ended waiting left) →
           Between (Counts first.lines.taken next.lines.taken) begin left → (IsTrue ended → waiting ≡ []) →
           (IsTrue ended → Between IsRead begin left) →
@@ -618,7 +618,7 @@ module _ {State Reason : Type 0} (work : LineWork State Reason) (first : Moment 
   -- those that waited when a line stopped the job
   pub unput_before : {Job Failure : Type 0} (Did : Deeds Job) (each : Bool) (job job' : Job) (So : Type 0)
       (fault : JobFault Reason Failure) → IsOfPutting So fault → (now next : Moment State)
-          (held between held' : Option (List ℕ)) (buffer : List ℕ) (one : Line)
+      (held between held' : Option (List ℕ)) (buffer : List ℕ) (one : Line)
       (made : Result (Unit {0}) (Stop Reason Failure)) (out : List ℕ) → IsFresh first.lines →
       IsServed work first now held between buffer →
       Between (Replies work now.state next.state next.lines.ended (Some made) out one) (ahead now.lines now.left)
@@ -634,13 +634,13 @@ module _ {State Reason : Type 0} (work : LineWork State Reason) (first : Moment 
   -- those that waited
   pub unput : {Job Failure : Type 0} (Did : Deeds Job) (each : Bool) (job job' : Job) (So : Type 0)
       (fault : JobFault Reason Failure) → IsOfPutting So fault → (now : Moment State)
-          (held between held' : Option (List ℕ)) (buffer : List ℕ) → IsFresh first.lines →
+      (held between held' : Option (List ℕ)) (buffer : List ℕ) → IsFresh first.lines →
       IsServed work first now held between buffer → Moves first now → PutsPart Did each job job' between held' buffer →
       Between (Leaves (output_by work first.state) held held' fault) first.left now.left
   unput Did each job job' So fault is now held between held' buffer fresh served moves puts =
       output_leaves (output_by work first.state) held held' first.left now.left So fault is
       (part_put now held between held' buffer fresh served moves
-          (some_part Did each job job' between held' buffer puts))
+      (some_part Did each job job' between held' buffer puts))
 
   -- none at all: there was no memory to hold one more
   pub unheld : {Failure : Type 0} (now next : Moment State) (held held' : Option (List ℕ)) (buffer : List ℕ)
@@ -685,7 +685,7 @@ module _ {State Reason : Type 0} (work : LineWork State Reason) (first : Moment 
 
       empty : (source left : List ℕ) →
           Stops now.lines.taken (joined now.lines.ended now.lines.waiting (Some source)) (Some source) (Some left)
-              fault →
+          fault →
           (IsTrue (needs_no_source now.lines) → Some left ≡ Some source) → (next : Bool) →
           needs_no_source now.lines ≡ next → buffer ≡ []
       empty source left stops unasked false is = idle is

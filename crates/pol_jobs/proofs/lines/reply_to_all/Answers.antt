@@ -107,7 +107,7 @@ returns-in_err-put_before_stop-clause-leaves g c =
     let next = rw c.in-Some.is at c.in_ok-made.ensures.next in
     rw (fault.1, fault.2) (unput_before g.J.LineJob.work _ g.J.LineJob.Did g.J.LineJob.SETTLES_EACH c.next_reply.new.job
     c.put_before_stop.new.job _ _ c.in_err-put_before_stop.ensures.fault _ _ _ _ _ c.loop-replies.replies.items
-        next.next
+    next.next
     c.in-Some.made _ c.requires
     (are_served g.J.LineJob.work _ _ _ _ _ _ invariant.served) next.replies
     (moves_on _ _ _ invariant.moves c.in_ok-made.ensures.next.moves) c.in_err-put_before_stop.ensures.part.1)
@@ -178,7 +178,7 @@ returns-in_err-put_due-clause-leaves g c =
     (rw c.in-Some.is at c.in_ok-made.ensures.next) in
     rw (fault.1, fault.2) (unput g.J.LineJob.work first Did g.J.LineJob.SETTLES_EACH c.next_reply.new.job
     c.put_due.new.job _ _ c.in_err-put_due.ensures.fault next (held c.args.sink.now) (held c.loop-replies.sink)
-        (held c.put_due.new.sink) waits
+    (held c.put_due.new.sink) waits
     c.requires (are_served g.J.LineJob.work (Did c.args.job.now c.next_reply.new.job) first next
     (held c.args.sink.now) (held c.loop-replies.sink) waits has)
     (moves_on first now next invariant.moves c.in_ok-made.ensures.next.moves) c.in_err-put_due.ensures.part)
@@ -225,7 +225,7 @@ returns-in_err-put_replies-clause-leaves g c =
     (rw c.in_default.is at c.in_ok-made.ensures.next) in
     rw (fault.1, fault.2) (unput g.J.LineJob.work first Did g.J.LineJob.SETTLES_EACH c.next_reply.new.job
     c.put_replies.new.job _ _ c.in_err-put_replies.ensures.fault next (held c.args.sink.now) (held c.loop-replies.sink)
-        (held c.put_replies.new.sink) waits
+    (held c.put_replies.new.sink) waits
     c.requires (are_served g.J.LineJob.work (Did c.args.job.now c.next_reply.new.job) first next
     (held c.args.sink.now) (held c.loop-replies.sink) waits has)
     (moves_on first now next invariant.moves c.in_ok-made.ensures.next.moves) c.in_err-put_replies.ensures.part)

@@ -16,7 +16,7 @@ returns-in_err-image-clause-tells g c =
     (λ l. c.in_ok-size.size ≡ length l) c.in_err-image.ensures.bytes c.in_ok-size.ensures.number in
     rw (fault.1, fault.2)
     (fault_tells ch.work g.met.C.Chronicle.lawful c.in_err-image.field-0.0 c.in_ok-size.size (d.bytes c.args.disk.now)
-        (d.bytes c.load_all.new.disk)
+    (d.bytes c.load_all.new.disk)
     (d.faults c.args.disk.now) (d.faults c.load_all.new.disk) c.in_err-image.ensures.breaks
     (still_then (d.bytes c.args.disk.now) (d.bytes c.settle.new.disk) (d.bytes c.load_all.new.disk)
     c.in_ok-size.ensures.bytes c.in_err-image.ensures.bytes)
@@ -27,20 +27,20 @@ returns-in_err-chronicle-clause-tells g c =
     let d = g.D.Disk in
     let ch = g.C.Chronicle in
     let fault = err_from_is_err_and c.from_residual-in_err-chronicle.result
-        c.from_residual-in_err-chronicle.ensures.1 in
+    c.from_residual-in_err-chronicle.ensures.1 in
     let items : List ℕ = c.in_ok-image.image.items in
     let breaks : Breaks ch.work items c.in_err-chronicle.field-0.0 = subst
     (λ (l : List ℕ). Breaks ch.work l c.in_err-chronicle.field-0.0) c.deref.ensures.value
-        c.in_err-chronicle.ensures.breaks in
+    c.in_err-chronicle.ensures.breaks in
     let long : 1 < c.in_ok-size.size = omega (arith, c.if-size-le1.false) in
     let counted = still_holds (d.bytes c.settle.new.disk) (d.bytes c.load_all.new.disk)
     (λ l. c.in_ok-size.size ≡ length l) c.in_ok-image.ensures.bytes c.in_ok-size.ensures.number in
     rw (fault.1, fault.2)
     (fault_tells ch.work g.met.C.Chronicle.lawful c.in_err-chronicle.field-0.0 c.in_ok-size.size
-        (d.bytes c.args.disk.now) (d.bytes c.load_all.new.disk)
+    (d.bytes c.args.disk.now) (d.bytes c.load_all.new.disk)
     (d.faults c.args.disk.now) (d.faults c.load_all.new.disk)
     (breaks_told ch.work c.in_err-chronicle.field-0.0 items (d.bytes c.load_all.new.disk) breaks
-        c.in_ok-image.ensures.read)
+    c.in_ok-image.ensures.read)
     (still_then (d.bytes c.args.disk.now) (d.bytes c.settle.new.disk) (d.bytes c.load_all.new.disk)
     c.in_ok-size.ensures.bytes c.in_ok-image.ensures.bytes)
     (λ other. c.in_ok-image.ensures.cause.done ∙ c.in_ok-size.ensures.cause.done) long counted)
@@ -64,12 +64,12 @@ returns-clause-opened g c = λ all now told later.
     } in
     subst
     (λ (l : List ℕ). IsOpened ch.work l (d.bytes c.load_all.new.disk) (d.images c.load_all.new.disk)
-        c.in_ok-chronicle.end items)
+    c.in_ok-chronicle.end items)
     (same_told (d.bytes c.args.disk.now) all now told first)
     (opened_long ch.work now (d.bytes c.load_all.new.disk) (d.images c.load_all.new.disk) c.in_ok-chronicle.end items
-        loaded
+    loaded
     (subst (λ (l : List ℕ). IsReplayed ch.work l c.in_ok-chronicle.end items) items_are
-        c.in_ok-chronicle.ensures.replayed))
+    c.in_ok-chronicle.ensures.replayed))
 
 pub returns-in_err-begin-clause-left : goal.returns-in_err-begin-clause-left
 returns-in_err-begin-clause-left g c = λ all now told later.

@@ -31,10 +31,10 @@ returns-in-Ok-clause-stand g c = λ now later image left.
     let items : List ch.Plain = ch.work.items (ch.state c.in-Ok.field-0.chronicle) in
     let first = was_told (d.bytes c.args.disk) (d.bytes c.open_on.new.disk) c.in-Ok.ensures.on now later in
     let opened : IsOpened ch.work first.0 (d.bytes c.open_on.new.disk) (d.images c.open_on.new.disk)
-        c.in-Ok.field-0.end items =
+    c.in-Ok.field-0.end items =
     c.in-Ok.ensures.opened first.0 now first.1 later in
     kept_stands ch.work (d.bytes c.open_on.new.disk) (d.images c.open_on.new.disk) c.in-Ok.field-0.end items
-        opened.kept image
+    opened.kept image
     left
 
 pub returns-in-Ok-clause-stood : goal.returns-in-Ok-clause-stood
