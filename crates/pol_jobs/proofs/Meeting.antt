@@ -39,85 +39,85 @@ behind_nothing (Ok done) out old reply empty is = is ∙ ap (λ old. old ++ repl
 behind_nothing (Err stop) out old reply empty is = tt
 
 module _ {State Reason Failure Job : Type 0} (work : LineWork State Reason) (Did : Deeds Job) (job job' : Job)
-    (before now : Moment State) (made : Result (Unit {0}) (Stop Reason Failure)) (old out : List ℕ) (empty : old ≡ [])
-  where
-    -- a line was met
-    met_so : (one : Line) → OnOk made (out ≡ old ++ work.reply before.state one) →
-        OnOk made (now.state ≡ work.after before.state one) → OnOk made (Accepts work before.state one) →
-        IfErr made (RefusedFor (work.Refuses before.state one)) → Met work before.state now.state made out one
-    met_so one said after accepted refused = record {
-      said = behind_nothing made out old (work.reply before.state one) empty said;
-      after = after;
-      accepted = accepted;
-      refused = refused;
-    }
+    (before now : Moment State) (made : Result (Unit {0}) (Stop Reason Failure)) (old out : List ℕ)
+    (empty : old ≡ []) where
+  -- a line was met
+  met_so : (one : Line) → OnOk made (out ≡ old ++ work.reply before.state one) →
+      OnOk made (now.state ≡ work.after before.state one) → OnOk made (Accepts work before.state one) →
+      IfErr made (RefusedFor (work.Refuses before.state one)) → Met work before.state now.state made out one
+  met_so one said after accepted refused = record {
+    said = behind_nothing made out old (work.reply before.state one) empty said;
+    after = after;
+    accepted = accepted;
+    refused = refused;
+  }
 
-    -- a line that was met so
-    met_as : (text : List ℕ) (one : Line) → met text ≡ one →
-        OnOk made (out ≡ old ++ work.reply before.state one) → OnOk made (now.state ≡ work.after before.state one) →
-        OnOk made (Accepts work before.state one) → IfErr made (RefusedFor (work.Refuses before.state one)) →
-        Met work before.state now.state made out (met text)
-    met_as text one same said after accepted refused =
-        subst (Met work before.state now.state made out) (sym same) (met_so one said after accepted refused)
+  -- a line that was met so
+  met_as : (text : List ℕ) (one : Line) → met text ≡ one →
+      OnOk made (out ≡ old ++ work.reply before.state one) → OnOk made (now.state ≡ work.after before.state one) →
+      OnOk made (Accepts work before.state one) → IfErr made (RefusedFor (work.Refuses before.state one)) →
+      Met work before.state now.state made out (met text)
+  met_as text one same said after accepted refused =
+      subst (Met work before.state now.state made out) (sym same) (met_so one said after accepted refused)
 
-    -- a line that isn't too long
-    pub text_next : (text : Bor (List ℕ)) →
-        Reads before.left now.left before.lines now.lines (line.Text text) →
-        OnOk made (out ≡ old ++ work.reply before.state (Some text.now)) →
-        OnOk made (now.state ≡ work.after before.state (Some text.now)) →
-        OnOk made (Accepts work before.state (Some text.now)) →
-        IfErr made (RefusedFor (work.Refuses before.state (Some text.now))) →
-        Meets Did job job' (Some text.now) (is_ok made) → IsNext work Did job job' before now (Some made) out
-    text_next text reads said after accepted refused did = record {
-      next = Some text.now;
-      replies = between_weaker (Answers (line.Text text) now.lines.ended)
-          (Replies work before.state now.state now.lines.ended (Some made) out (Some text.now))
-          (ahead before.lines before.left) (ahead now.lines now.left)
-          (λ bytes rest first. (
-            text.now,
-            first,
-            met_as text.now (Some text.now) (met_short text.now reads.in_limit) said after accepted refused,
-            sym (met_short text.now reads.in_limit),
-          )) reads.answers;
-      met = met_so (Some text.now) said after accepted refused;
-      did = did;
-      gives = reads.gives;
-      moves = record {
-        counted = reads.counted;
-        limit = reads.limit;
-        spent = reads.spent;
-        at_end = reads.at_end;
-        sound = reads.sound;
-      };
-      ended = tt;
-    }
+  -- a line that isn't too long
+  pub text_next : (text : Bor (List ℕ)) →
+      Reads before.left now.left before.lines now.lines (line.Text text) →
+      OnOk made (out ≡ old ++ work.reply before.state (Some text.now)) →
+      OnOk made (now.state ≡ work.after before.state (Some text.now)) →
+      OnOk made (Accepts work before.state (Some text.now)) →
+      IfErr made (RefusedFor (work.Refuses before.state (Some text.now))) →
+      Meets Did job job' (Some text.now) (is_ok made) → IsNext work Did job job' before now (Some made) out
+  text_next text reads said after accepted refused did = record {
+    next = Some text.now;
+    replies = between_weaker (Answers (line.Text text) now.lines.ended)
+        (Replies work before.state now.state now.lines.ended (Some made) out (Some text.now))
+        (ahead before.lines before.left) (ahead now.lines now.left)
+        (λ bytes rest first. (
+          text.now,
+          first,
+          met_as text.now (Some text.now) (met_short text.now reads.in_limit) said after accepted refused,
+          sym (met_short text.now reads.in_limit),
+        )) reads.answers;
+    met = met_so (Some text.now) said after accepted refused;
+    did = did;
+    gives = reads.gives;
+    moves = record {
+      counted = reads.counted;
+      limit = reads.limit;
+      spent = reads.spent;
+      at_end = reads.at_end;
+      sound = reads.sound;
+    };
+    ended = tt;
+  }
 
-    -- a longer one
-    pub long_next : Reads before.left now.left before.lines now.lines line.TooLong →
-        OnOk made (out ≡ old ++ work.reply before.state None) →
-        OnOk made (now.state ≡ work.after before.state None) → OnOk made (Accepts work before.state None) →
-        IfErr made (RefusedFor (work.Refuses before.state None)) → Meets Did job job' None (is_ok made) →
-        IsNext work Did job job' before now (Some made) out
-    long_next reads said after accepted refused did = record {
-      next = None;
-      replies = between_weaker (Answers line.TooLong now.lines.ended)
-          (Replies work before.state now.state now.lines.ended (Some made) out None)
-          (ahead before.lines before.left) (ahead now.lines now.left)
-          (λ bytes rest told. (
-            told.0,
-            told.1,
-            met_as told.0 None (met_long told.0 told.2) said after accepted refused,
-            sym (met_long told.0 told.2),
-          )) reads.answers;
-      met = met_so None said after accepted refused;
-      did = did;
-      gives = reads.gives;
-      moves = record {
-        counted = reads.counted;
-        limit = reads.limit;
-        spent = reads.spent;
-        at_end = reads.at_end;
-        sound = reads.sound;
-      };
-      ended = tt;
-    }
+  -- a longer one
+  pub long_next : Reads before.left now.left before.lines now.lines line.TooLong →
+      OnOk made (out ≡ old ++ work.reply before.state None) →
+      OnOk made (now.state ≡ work.after before.state None) → OnOk made (Accepts work before.state None) →
+      IfErr made (RefusedFor (work.Refuses before.state None)) → Meets Did job job' None (is_ok made) →
+      IsNext work Did job job' before now (Some made) out
+  long_next reads said after accepted refused did = record {
+    next = None;
+    replies = between_weaker (Answers line.TooLong now.lines.ended)
+        (Replies work before.state now.state now.lines.ended (Some made) out None)
+        (ahead before.lines before.left) (ahead now.lines now.left)
+        (λ bytes rest told. (
+          told.0,
+          told.1,
+          met_as told.0 None (met_long told.0 told.2) said after accepted refused,
+          sym (met_long told.0 told.2),
+        )) reads.answers;
+    met = met_so None said after accepted refused;
+    did = did;
+    gives = reads.gives;
+    moves = record {
+      counted = reads.counted;
+      limit = reads.limit;
+      spent = reads.spent;
+      at_end = reads.at_end;
+      sound = reads.sound;
+    };
+    ended = tt;
+  }

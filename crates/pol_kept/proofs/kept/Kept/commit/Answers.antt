@@ -67,7 +67,8 @@ returns-clause-kept g c =
     (items_of ch.work ch.state s) s.waiting)) (sym c.deref.ensures.value) c.self.invariant in
     let good : is_err c.add.result ≡ false = sym c.is_err.ensures.value ∙ c.if-is_err.false in
     let more = kept_more ch.work ch.state d.bytes d.images d.moment d.left_since g.met.D.Disk.only_now s
-    c.self.inside.end c.deref.result.now c.add.new.disk o some (at_ok c.add.result good c.add.ensures.kept) c.if-self.false in
+    c.self.inside.end c.deref.result.now c.add.new.disk o some (at_ok c.add.result good c.add.ensures.kept)
+    c.if-self.false in
     subst (λ (t : KeptState g.row.C.Denot g.row.D.Denot). KeepsAll ch.work ch.state d.bytes d.images t c.add.new.disk)
     c.self.view_is
     (keeps_all ch.work ch.state d.bytes d.images d.moment d.left_since g.met.D.Disk.only_now s
@@ -92,7 +93,8 @@ invariant_of-self-2 g c =
     (items_of ch.work ch.state s) s.waiting)) (sym c.deref.ensures.value) c.self.invariant in
     let good : is_err c.add.result ≡ false = sym c.is_err.ensures.value ∙ c.if-is_err.false in
     let more = kept_more ch.work ch.state d.bytes d.images d.moment d.left_since g.met.D.Disk.only_now s
-    c.self.inside.end c.deref.result.now c.add.new.disk o some (at_ok c.add.result good c.add.ensures.kept) c.if-self.false in
+    c.self.inside.end c.deref.result.now c.add.new.disk o some (at_ok c.add.result good c.add.ensures.kept)
+    c.if-self.false in
     let items : List ch.Plain = items_of ch.work ch.state s in
     let seen : Option (List ℕ) = d.bytes c.add.new.disk in
     let size : c.self.inside.end + c.len.result ≡ c.self.inside.end + length c.deref.result.now =
