@@ -1,12 +1,13 @@
 //! Fields as JSON objects, written token by token.
-ghost use Rattle.std.specs.Prelude.{◌≡◌, ◌∷◌, ◌++◌, OnOk};
+ghost use Rattle.std.specs.Prelude.{◌≡◌, ◌∷◌, ◌++◌, OnOk, true};
 ghost use Rattle.json.specs.Token as token;
+ghost use Rattle.mtp_json.specs.Written.{is_scalar, scalar_data};
 ghost use Rattle.event_json.specs.Fields.{fields_of, plain_field, plain_field_value};
 ghost use Rattle.pol_record.specs.Objects.{data_tokens, fields_data, reading_data, readings_data, value_data};
 
 use event_json::{Field, FieldValue, Fields};
 use json::Writer;
-use mtp_codes::Reading;
+use mtp_codes::{Reading, Value};
 use std::alloc::AllocError;
 
 #[tactic(auto, using(crate::proofs::Tokens::whole_reading))]
@@ -17,6 +18,20 @@ fn write_reading(writer: &mut Writer, reading: Reading) -> Result<(), AllocError
     match reading {
         Reading::Whole(number) => writer.i64(number),
         Reading::Bit(bit) => writer.boolean(bit),
+    }
+}
+
+/// Writes a value of a variable or of a parameter.
+#[tactic(auto, using(crate::proofs::Tokens::whole_reading))]
+pub fn write_scalar(writer: &mut Writer, value: &Value) -> Result<(), AllocError>
+    ensures tokens { OnOk result (writer.new.tokens ≡ writer.old.tokens ++ data_tokens (scalar_data value.now)) }
+    ensures before { writer.new.before ≡ writer.old.before }
+    ensures held { is_scalar value.now ≡ true }
+{
+    match value {
+        Value::Whole(number) => writer.i64(*number),
+        Value::Bit(bit) => writer.boolean(*bit),
+        Value::Text(text) => writer.string(text.as_str()),
     }
 }
 

@@ -1,7 +1,7 @@
 //! The text of an event. The kinds that are frequent are written token by token, the others by way of a tree.
 ghost use Rattle.std.specs.Prelude.{◌≡◌, ◌&&◌, ◌∷◌, ◌++◌, [], codes, decimal, IfOk, IsTrue, Ok, OnOk, true};
 ghost use Rattle.json.specs.Token as token;
-ghost use Rattle.mtp_json.specs.Written.{is_scalar, scalar_data};
+ghost use Rattle.mtp_json.specs.Written.{scalar_data};
 ghost use Rattle.pol_events.specs.Events.{advance, desk, plain_event, report, variable};
 ghost use Rattle.pol_events.specs.Orderly.{is_orderly};
 ghost use Rattle.event_json.specs.Ranges.{is_in_range};
@@ -15,7 +15,7 @@ use json::Writer;
 use mtp_assembly::ServiceControl;
 use mtp_codes::{Command, Name, Value};
 use pol_events::Event;
-use pol_record::{event_text, write_text};
+use pol_record::{event_text, write_scalar, write_text};
 use std::alloc::{AllocError, Global};
 use std::mem;
 
@@ -62,19 +62,6 @@ fn write_report(
     write_text(writer, "service", service)?;
     write_text(writer, "tag", tag)?;
     writer.end_object()
-}
-
-#[tactic(auto, using(pol_record::proofs::Tokens::whole_reading))]
-fn write_scalar(writer: &mut Writer, value: &Value) -> Result<(), AllocError>
-    ensures tokens { OnOk result (writer.new.tokens ≡ writer.old.tokens ++ data_tokens (scalar_data value.now)) }
-    ensures before { writer.new.before ≡ writer.old.before }
-    ensures held { is_scalar value.now ≡ true }
-{
-    match value {
-        Value::Whole(number) => writer.i64(*number),
-        Value::Bit(bit) => writer.boolean(*bit),
-        Value::Text(text) => writer.string(text.as_str()),
-    }
 }
 
 fn write_variable(
