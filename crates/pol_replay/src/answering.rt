@@ -51,10 +51,12 @@ pub trait Answering<F: LineForm> {
         → Answers answering answering held held (Some line) };
 }
 
-// Whether a line says first of all that it is a start. No start is read quickly, for its binds.
+// Whether a line says first of all that it is a start. No start is read quickly, for its binds. Three bytes tell it from
+// almost every other line.
 #[inline(always)]
 fn is_start(line: &[u8]) -> bool {
-    line.starts_with(b"{\"ev\":\"start\"")
+    matches!(line, [_, _, _, _, _, _, _, b's', b't', b'a', ..])
+        && line.starts_with(b"{\"ev\":\"start\"")
 }
 
 // Answers a line that isn't blank, read by the tree of its JSON. The large locals of such a reading stand here, so that
