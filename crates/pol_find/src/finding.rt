@@ -18,6 +18,7 @@ use std::alloc::{AllocError, Global};
 use std::convert::Infallible;
 
 // Lets the plant answer an event.
+#[inline(always)]
 fn apply(plant: &mut Plant, event: Event) -> Result<(), AllocError>
     requires { IsTrue (is_orderly (plain_event event)) }
     ensures { OnOk result (plant_history plant.new

@@ -1,12 +1,13 @@
 //! A journal under a policy, line by line.
-ghost use Rattle.std.specs.Prelude.{◌≡◌, [], IfOk, IfErr, Ok, Err};
+ghost use Rattle.std.specs.Prelude.{◌≡◌, [], IfOk, IfErr, OnOk, Ok, Err};
 ghost use Rattle.pol_jobs.specs.Faults.{RefusedFor};
 ghost use Rattle.pol_jobs.specs.InputLines.{plain_line};
+ghost use Rattle.pol_jobs.specs.LineWork.{Accepts};
 ghost use Rattle.pol_policy.specs.PlainPolicy.{plain_policy};
 ghost use Rattle.pol_replay.specs.Meanings.{is_some_line};
 ghost use Rattle.pol_guard.specs.Guarded.{policy_said};
 ghost use Rattle.pol_guard.specs.Guards.{known_by};
-ghost use Rattle.pol_guard.specs.Work.{waiting};
+ghost use Rattle.pol_guard.specs.Work.{guard_work, waiting};
 
 use crate::replying::GuardedPlant;
 use event_json::is_blank;
@@ -64,6 +65,32 @@ fn policy_said(alloc: Global, line: InputLine<'_>) -> Result<Policy, Stop<JsonFa
     }
 }
 
+// Begins with the policy that a line says, unless it is blank. The large locals of that stand here, so that the lines
+// behind the policy don't pay for them.
+#[inline(never)]
+fn begin(
+    alloc: Global,
+    guard: &mut Guard,
+    line: InputLine<'_>,
+) -> Result<(), Stop<JsonFault, Infallible>>
+    requires { known_by guard.old ≡ waiting }
+    ensures after { OnOk result (known_by guard.new ≡ guard_work.after waiting (plain_line line.entry)) }
+    ensures accepted { OnOk result (Accepts guard_work waiting (plain_line line.entry)) }
+    ensures refused { IfErr result (RefusedFor (guard_work.Refuses waiting (plain_line line.entry))) }
+{
+    if !is_some_line(line) {
+        return Ok(());
+    }
+    let policy = policy_said(alloc, line)?;
+    let plant = Plant::new(alloc);
+    *guard = Guard::Begun(GuardedPlant {
+        alloc,
+        policy,
+        plant,
+    });
+    Ok(())
+}
+
 /// A guard: its first line that isn't blank is its policy, and it replies to each other line of the journal as the
 /// policy and its plant say; it closes with the line of each batch and the end line.
 #[derive(Drop)]
@@ -119,24 +146,12 @@ impl LineJob for Guarding {
         out: &mut Vec<u8>,
     ) -> Result<(), Stop<JsonFault, Infallible>> {
         match &mut self.guard {
-            Guard::Waiting => {
-                if !is_some_line(line) {
-                    return Ok(());
-                }
-                let alloc = self.alloc;
-                let policy = policy_said(alloc, line)?;
-                let plant = Plant::new(alloc);
-                self.guard = Guard::Begun(GuardedPlant {
-                    alloc,
-                    policy,
-                    plant,
-                });
+            Guard::Waiting => begin(self.alloc, &mut self.guard, line),
+            Guard::Begun(guarded) => {
+                answer_line::<GuardedLines, _>(self.alloc, line, guarded, out)?;
+                Ok(())
             }
-            Guard::Begun(guarded) => answer_line::<GuardedLines, _>(
-                self.alloc, line, guarded, out,
-            )?,
         }
-        Ok(())
     }
 
     fn settle(&mut self) -> Result<(), Infallible> {
