@@ -21,9 +21,9 @@ when_whole (Ok done) holds whole = holds
 when_whole (Err fault) holds whole = cc
 
 -- the same items, of which as many wait
-pub adds_none : {Item : Type 0} (old now due : List Item) (waiting waiting' : ℕ) → now ≡ old → waiting' ≡ waiting →
+pub adds_none : {Item : Type 0} {old now due : List Item} {waiting waiting' : ℕ} → now ≡ old → waiting' ≡ waiting →
     Adds old waiting now waiting' due
-adds_none old now due waiting waiting' same many = record {
+adds_none {Item} {old} same many = record {
   more = [];
   are = same ∙ sym (append-nil old);
   many = omega (arith, many);
@@ -36,7 +36,7 @@ module _ {State Item Answer : Type 0} (work : ChronicleWork State Item Answer) {
   untouched store due = record {
     uncalled = refl;
     closed = refl;
-    adds = adds_none (items_of work state store) (items_of work state store) due store.waiting store.waiting refl refl;
+    adds = adds_none refl refl;
   }
 
   module _ (before now : KeptState C D) (uncalled : now.disk ≡ before.disk) (closed : now.closed ≡ before.closed) where
@@ -68,8 +68,7 @@ module _ {State Item Answer : Type 0} (work : ChronicleWork State Item Answer) {
           all = inr (ap work.items after);
         }
         by_kept false is =
-            adds_none (items_of work state before) (items_of work state now) due before.waiting now.waiting
-            (ap work.items (after ∙ lawful.stays (state before.chronicle) item is)) (counted false is)
+            adds_none (ap work.items (after ∙ lawful.stays (state before.chronicle) item is)) (counted false is)
 
     -- it wasn't: nothing happened, whatever was due
     pub refused : (faults : D → ℕ) (IsSame : C → C → Type 0) →
@@ -84,9 +83,7 @@ module _ {State Item Answer : Type 0} (work : ChronicleWork State Item Answer) {
         by_refusal : (refusal : KeptRefusal _) → Refuses faults IsSame before now item refusal →
             Adds (items_of work state before) before.waiting (items_of work state now) now.waiting due
         by_refusal (of_item.Memory back) refuses =
-            adds_none (items_of work state before) (items_of work state now) due before.waiting now.waiting
-            (ap work.items (same before.chronicle now.chronicle refuses.3)) refuses.4
+            adds_none (ap work.items (same before.chronicle now.chronicle refuses.3)) refuses.4
         by_refusal of_item.Disk refuses = absurd (no_both now.closed (closed ∙ refuses.0) refuses.1)
         by_refusal (of_item.Closed back) refuses =
-            adds_none (items_of work state before) (items_of work state now) due before.waiting now.waiting
-            (ap (items_of work state) refuses.2) (ap (λ (store : KeptState C D). store.waiting) refuses.2)
+            adds_none (ap (items_of work state) refuses.2) (ap (λ (store : KeptState C D). store.waiting) refuses.2)

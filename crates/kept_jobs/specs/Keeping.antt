@@ -64,7 +64,7 @@ module _ {Known Reason : Type 0} (lines : LineWork Known Reason) {Item : Type 0}
     pub are : waiting ≡ before ++ last ∷ []
     pub some : AreSome known (settled ++ before) (last ∷ []) (items now)
 
-  -- it knows what it knows behind all lines, where it replied to the last one too
+  -- where it replied to the last one too, what it knows now is what is known behind all lines; else it stopped there
   abbrev pub KnowsMet : Bool → Known → List Line → List Line → Known → Type 0
   KnowsMet true known settled waiting now = now ≡ after_each lines known (settled ++ waiting)
   KnowsMet false known settled waiting now = StopsAtLast known settled waiting now
