@@ -93,8 +93,9 @@ module _ {State Item Answer : Type 0} (work : ChronicleWork State Item Answer) w
             (λ stands. inr (stands_none (job.items_with old) input image stands)))
 
         -- The disk couldn't be opened.
-        pub unopened_keeps : (input held : Option (List ℕ)) → ((now : D) (t : ℕ) (image : List ℕ) → t ≤ disk.moment now → disk.images now image →
-            disk.left_since now t image) → KeepsLines work disk job first mid input held held
+        pub unopened_keeps : (input held : Option (List ℕ)) → ((now : D) (t : ℕ) (image : List ℕ) →
+            t ≤ disk.moment now → disk.images now image → disk.left_since now t image) →
+            KeepsLines work disk job first mid input held held
         unopened_keeps input held counts_now = record {
           moments = λ old reads tells. of_input input _ (opening_more old reads tells);
           kept = λ old reads tells. of_input input _ (λ input image now.

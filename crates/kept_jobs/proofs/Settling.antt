@@ -153,12 +153,15 @@ module _ {Known Reason : Type 0} (lines : LineWork Known Reason) where
           before = [];
           last = last;
           are = refl;
-          some = subst (λ (met : List Line). AreSome lines items known met (last ∷ []) (items new))
-              (sym (append-nil (settled ++ waiting)))
-              (subst (AreSome lines items known (settled ++ waiting) (last ∷ [])) (ap items (sym same))
-              (subst (λ (line : Line). AreSome lines items known (settled ++ waiting) (line ∷ []) (items now)) (sym one.1)
-              (subst (λ (met : List Line). AreSome lines items known (settled ++ met) (stops.last ∷ []) (items now))
-              (sym one.0) stops.some)));
+          some = record {
+            first = stops.some.first;
+            behind = stops.some.behind;
+            are = ap (λ (line : Line). line ∷ []) one.1 ∙ stops.some.are;
+            is =
+                ap items same ∙ stops.some.is
+                ∙ ap (λ (met : List Line). items (after_each lines known (met ++ stops.some.first)))
+                (ap (λ (before : List Line). settled ++ before) (sym one.0) ∙ sym (append-nil (settled ++ waiting)));
+          };
         }
 
 -- ---- what a call leaves, by the lines that were met
@@ -186,8 +189,8 @@ module _ {State Item Answer : Type 0} (work : ChronicleWork State Item Answer) {
   }
 
   module _ (first now new : JobState Known D) (settled waiting : List Line) where
-    -- A line was met: goal `did` of `reply`, with what is due of the store behind it (`Admits`), and what is known where
-    -- it was replied to.
+    -- A line was met: goal `did` of `reply`, with what is due of the store behind it (`Admits`), and what is known
+    -- where it was replied to.
     pub takes : GoesOn work lines items disk first now settled waiting true → (line : Line) (whole : Bool) →
         new.disk ≡ now.disk → new.closed ≡ now.closed →
         Adds (items now.known) now.waiting (items new.known) new.waiting (items (lines.after now.known line)) →
@@ -305,13 +308,15 @@ module _ {State Item Answer : Type 0} (work : ChronicleWork State Item Answer) {
     met = λ opened. absurd (no_both new.closed opened failed.fails.closed);
   }
     where
-      by_cause : first.closed ≡ false → FailedOrWas disk.faults now.disk new.disk now.closed → Rose (disk.faults first.disk) (disk.faults new.disk)
+      by_cause : first.closed ≡ false → FailedOrWas disk.faults now.disk new.disk now.closed →
+          Rose (disk.faults first.disk) (disk.faults new.disk)
       by_cause was_open (inl rose) = subst (λ (n : ℕ). Rose n (disk.faults new.disk)) (so_far.quiet rose.0) rose.1
       by_cause was_open (inr same) =
           subst (λ (d : D). Rose (disk.faults first.disk) (disk.faults d)) (sym same.1)
           (so_far.cause was_open same.0)
 
-      by_leaving : IsKept work items disk first → FailedOrWas disk.faults now.disk new.disk now.closed → LeavesOnly disk.moment disk.left_since first.disk new.disk
+      by_leaving : IsKept work items disk first → FailedOrWas disk.faults now.disk new.disk now.closed →
+          LeavesOnly disk.moment disk.left_since first.disk new.disk
           (StandsForSome work lines items first.known [] (settled ++ waiting))
       by_leaving kept (inl rose) =
           all_left first now settled waiting whole new so_far failed.moments failed.on rose.0 kept
@@ -319,7 +324,8 @@ module _ {State Item Answer : Type 0} (work : ChronicleWork State Item Answer) {
           subst (λ (d : D). LeavesOnly disk.moment disk.left_since first.disk d
           (StandsForSome work lines items first.known [] (settled ++ waiting))) (sym same.1) (so_far.leaves kept)
 
-      by_left : IsKept work items disk first → (image : List ℕ) → disk.images new.disk image → FailedOrWas disk.faults now.disk new.disk now.closed →
+      by_left : IsKept work items disk first → (image : List ℕ) → disk.images new.disk image →
+          FailedOrWas disk.faults now.disk new.disk now.closed →
           StandsForSome work lines items first.known settled waiting image
       by_left kept image left (inl rose) =
           let was = so_far.met rose.0 kept in
