@@ -11,7 +11,7 @@ use Rattle.kept_jobs.specs.Life.{AreRuns, HasAnswers, KeepsAnswered, KeepsOld, L
 use Rattle.kept_jobs.specs.Life.{last_of}
 
 module _ {State Item Answer : Type 0} (work : ChronicleWork State Item Answer) (lawful : IsLawful work) {D : Type 0}
-    (disk : Telling D) (job : KeptJob Item) (keeps_old : KeepsOld job) where
+    (disk : Telling D) (job : KeptJob Item) (keeps_old : KeepsOld work job) where
   -- what an image has of a run, another one has that stands for its items and more
   answers_grow : (run : Run D Item) (old some more : List Item) (bytes image : List ℕ) → StandsFor work old bytes →
       StandsFor work some image → some ≡ old ++ more → HasAnswers work disk job bytes run →
@@ -46,7 +46,7 @@ module _ {State Item Answer : Type 0} (work : ChronicleWork State Item Answer) (
           answers_grow earlier run.old run.old [] behind.bytes image behind.stand stands (sym (append-nil run.old))
           (has behind.bytes (behind.found behind.bytes behind.one))
   still_answered crashed earlier run behind has image (inr one) =
-      let grows = keeps_old run.old one.first in
+      let grows = keeps_old run.old behind.bytes behind.stand one.first in
       answers_grow earlier run.old (job.items_with run.old one.first) grows.0 behind.bytes image behind.stand one.stands
       grows.1 (has behind.bytes (behind.found behind.bytes behind.one))
 

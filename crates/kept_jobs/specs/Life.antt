@@ -8,10 +8,11 @@ use Rattle.pol_kept.specs.Work.{ChronicleWork}
 use Rattle.kept_jobs.specs.Telling.{Telling, Tells}
 use Rattle.kept_jobs.specs.Leaving.{KeepsLines, KeptJob}
 
--- the items with those of some lines are the old ones and more
-abbrev pub KeepsOld : {Item : Type 0} → KeptJob Item → Type 0
-KeepsOld {Item} job =
-    (old : List Item) (lines : List (List ℕ)) → (more : List Item) × (job.items_with old lines ≡ old ++ more)
+-- where the old items can be kept, they and those of some lines are the old ones and more
+abbrev pub KeepsOld : {State Item Answer : Type 0} → ChronicleWork State Item Answer → KeptJob Item → Type 0
+KeepsOld {State} {Item} work job =
+    (old : List Item) (image : List ℕ) → StandsFor work old image → (lines : List (List ℕ)) →
+    (more : List Item) × (job.items_with old lines ≡ old ++ more)
 
 -- a run: its disk at the start and at the end, the items that this read as, its input, and what its sink held at the
 -- start and at the end; a run that is cut off is one whose disk and sink fail from then on
