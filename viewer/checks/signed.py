@@ -33,11 +33,18 @@ def to_paper(checks, when):
 
 
 def check_one_batch(checks):
-    checks.choose('chosenBatch', 'blue')
+    checks.choose('chosenTag', 'K12')
     to_paper(checks, 'before')
-    checks.says('paper of one batch says so', 'paper', 'only what was chosen: Batch blue', 'In the files: 101 entries')
+    checks.says('paper of one module says so', 'paper', 'only what was chosen: Module K12', 'In the files: 101 entries')
     outcomes = "document.querySelector('#paper [aria-label=\"Batches and their outcome\"] tbody').textContent"
     checks.is_true('and has no other', outcomes + ".includes('blue') && !%s.includes('red')" % outcomes)
+    to_paper(checks, 'after')
+    checks.choose('chosenTag', '')
+    checks.choose('chosenBatch', 'blue')
+    to_paper(checks, 'before')
+    checks.says('paper of one batch is its sheet', 'paper', 'Batch record: blue', 'In the files: 101 entries')
+    checks.gives('and has a chart and no other log', """['#paper figure svg', '#paper .log li']
+        .map(each => document.querySelectorAll(each).length)""", [1, 0])
     to_paper(checks, 'after')
 
 

@@ -77,5 +77,5 @@ const awaited = (() => {
       return words.visible(parts.filter(part => part).join(" · "));
     });
   }
-  return { at, keys, told };
+  return { at, keys, told, condition };
 })();

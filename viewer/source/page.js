@@ -272,7 +272,7 @@ const page = (() => {
       return;
     }
     view.set(...state.kept);
-    by("paper").replaceChildren();
+    paper.empty(by("paper"));
     again();
     move();
   }

@@ -21,6 +21,8 @@ const past = (() => {
   }
   // What became of an operator's command, by what its answer has.
   const DESK = { did: "deskPermitted", denied: "deskDenied", rule: "deskRefused", bad: "deskBad" };
+  // What is to be looked at because of somebody's line, which may say whose. That of the desk says it by itself.
+  const GIVEN = new Set(["frozen", "frozenHolding", "stopAsked", "closedBatch", "exchangedIn", "exchangedWatched"]);
   // What an event must have to be drawn; a forged one may lack it.
   const FIELDS = {
     plug: { tag: "string", desc: "object" }, unplug: { tag: "string" }, variable: { tag: "string", name: "string" },
@@ -56,7 +58,10 @@ const past = (() => {
       if (!this.known.has(text)) this.known.set(text, text);
       return this.known.get(text);
     }
-    alarm(at, style, subject, key, ...values) { this.alarms.push({ at, style, subject, key, values }); }
+    alarm(at, style, subject, key, ...values) {
+      const by = GIVEN.has(key) ? this.people.get(at) ?? null : null;
+      this.alarms.push({ at, style, subject, key, values, by });
+    }
     take(at, event, answer) {
       const kind = answer ? KINDS.find(key => key in answer) ?? "none" : "none";
       this.counts.lines += 1; this.counts[kind] += 1;
@@ -209,7 +214,7 @@ const past = (() => {
       module?.value(at, event.name, event.value);
       all.hear(module);
     },
-    recipe: (all, at, event) => { all.recipes.set(event.recipe, new recipes.Recipe(event)); },
+    recipe: (all, at, event) => { all.recipes.set(event.recipe, new recipes.Recipe(at, event)); },
     start(all, at, event) {
       if (!isNames(event.bind) || !isNames(event.watch ?? {})) throw new TypeError("a start without its modules");
       const lane = all.attempts.get(event.batch)?.lane ?? new spans.Lane("batch", event.batch);

@@ -42,7 +42,7 @@ const runs = (() => {
     constructor(at, event, known, lane) {
       Object.assign(this, { name: event.batch, recipe: event.recipe, bind: event.bind, watch: event.watch ?? {} });
       Object.assign(this, { known, lane, started: at, ended: null, outcome: null, frozen: false, slots: [], reasons: [],
-        before: [], left: [],
+        before: [], left: [], freezes: [],
         points: [new Standing()] });
       // When it was asked last, how many reports of its modules came since, and when something else changed for it.
       Object.assign(this, { asked: null, heard: 0, changed: at });
@@ -76,9 +76,13 @@ const runs = (() => {
     goOn(at) { if (!this.frozen) this.waits.close(at); }
     freeze(at, holds) {
       this.frozen = true; this.holds = holds; this.changed = at;
+      this.freezes.push({ from: at, to: null, holds });
       this.wait(at, { wait: "Frozen" });
     }
-    thaw(at) { this.frozen = false; this.changed = at; this.waits.close(at); }
+    thaw(at) {
+      if (this.frozen) this.freezes[this.freezes.length - 1].to = at;
+      this.frozen = false; this.changed = at; this.waits.close(at);
+    }
     // An entry of the log: kept, and shown in the slot of its step.
     did(at, did) {
       this.goOn(at);
@@ -111,6 +115,7 @@ const runs = (() => {
       else if (did.do === "unhold") slot.open(at, "run", slot.owner);
     }
     close(at, outcome) {
+      if (this.frozen) this.freezes[this.freezes.length - 1].to = at;
       this.outcome = outcome; this.ended = at; this.frozen = false;
       for (const track of [this.whole, this.waits, ...this.slots]) track.close(at);
       this.lane.outcome = outcome;
@@ -148,5 +153,5 @@ const runs = (() => {
       return [...found.values()];
     }
   }
-  return { Batch, ENDS };
+  return { Batch, ENDS, deedOf };
 })();
