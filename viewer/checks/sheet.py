@@ -27,6 +27,7 @@ BREAKS = {'#paper h2': ('breakAfter', 'avoid'), '#paper tr': ('breakInside', 'av
 
 def check(checks):
     check_stored(checks)
+    check_kinds(checks)
     check_recipe(checks)
     check_names(checks)
     check_faults(checks)
@@ -69,6 +70,23 @@ def check_stored(checks):
         other = [pair for pair in zip(lasting(told), stored) if pair[0] != pair[1]][:2]
         checks.that('sheet of %s: each word as stored' % name, lasting(told) == stored, other or 'another length')
         checks.that('sheet of %s: its files' % name, all(row_of(file) in told for file in files), told)
+
+
+def check_kinds(checks):
+    """What the stored words lack: a batch that broke, was abandoned or is still open, and what a service did alone."""
+    broken = [checks.data('broken'), checks.data('broken.answers')]
+    for batch, files, texts in (
+            ('red', broken, ['batch red broke: step stir found its service in Aborted / Stop is asked for: heat of K11',
+                             'broke in Aborted / entry 43', 'an operator asked stir of K11 for Abort: permitted']),
+            ('blue', broken, ['batch blue was frozen / batch blue is to go on / entry 74']),
+            ('green', broken, ['not ended when the batch was closed', 'batch green was closed as Abandoned',
+                               'heat of K13 was reported in Pausing / heat of K13 was reported in Paused / entry 97']),
+            ('', [checks.data('holding'), checks.data('holding.answers')],
+             ['Closed | not closed at the end of the files', 'entry 4 · stamp 4 · line given by: not named',
+              'batch b is still running at the end'])):
+        checks.open(*files)
+        told = words_of(checks, batch)
+        checks.same('sheet of %s: what the stored ones lack' % (batch or 'b'), [t for t in texts if t not in told], [])
 
 
 def row_of(file):

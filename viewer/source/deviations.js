@@ -6,7 +6,7 @@ const deviations = (() => {
   // What is told of the reviewer's list as it stands there; the rest of that list is told here with what belongs to it.
   const PLAIN = new Set(["deskPermitted", "deskOdd", "deskUnknown", "leftAlarm", "openBatch", "auditHere"]);
   const ENDINGS = new Set(["stopAsked", "brokenBatch"]), CLOSINGS = new Set(["abnormal", "closedBatch"]);
-  const MOST_LINE = 200;
+  const HOLDS = new Set(["hold", "unhold"]), MOST_LINE = 200;
   const deviation = (at, text, more = [], isLoud = false) => ({ at, text, times: [at], more, isLoud });
   const alarmed = ({ at, key, values, style }, more = []) => deviation(at, words.say(key, ...values), more,
     style === "left");
@@ -44,32 +44,45 @@ const deviations = (() => {
         for (let k = 0; k < own[track].length; k += 1) {
           const { from: begun, to, style, text } = own[track], from = begun[k];
           if (styles.has(style[k]) && from > batch.started && from <= end) {
-            yield { at: from, to: to[k], text: words.say("cameTo", service, tag, text[k]) };
+            yield { at: from, to: to[k], lane: own.lane, text: words.say("cameTo", service, tag, text[k]) };
           }
         }
       }
     }
   }
-  // Which steps still ran when a freeze with holds was over, and nobody was asked to hold them.
-  function unheld(batch, at) {
-    const running = [...batch.standing(at - 1).steps].filter(([, { phase }]) => phase === "on");
-    return running.map(([step]) => ({ at, text: words.say("notHeld", step) }));
+  // What a service came to by itself, one right behind another, is told together.
+  function joined(reported) {
+    const made = [];
+    for (const each of reported) {
+      const last = made[made.length - 1];
+      if (last && last.lane === each.lane && last.to === each.at) Object.assign(last, { to: each.to }).more.push(each);
+      else made.push({ ...each, more: [] });
+    }
+    return made.map(({ at, text, more }) => deviation(at, text, more));
   }
-  // Each freeze with its holds, what was reported meanwhile, and its thaw. What a service did by itself is told alone.
+  // A freeze with the holds and unholds that the batch asked for because of it, and until when.
+  function freezeOf(batch, { from, to, holds }, next, end) {
+    const asked = batch.log.at.filter((at, k) => at >= from && at < next && HOLDS.has(batch.log.did[k].do));
+    return { from, to, holds, asked, until: Math.max(to ?? end, ...asked) };
+  }
+  // Which steps still ran when a freeze with holds was over, and nobody had asked them to hold.
+  function unheld(batch, to, end) {
+    const running = [...batch.standing(to === null ? end : to - 1).steps].filter(([, { phase }]) => phase === "on");
+    return running.map(([step]) => ({ at: to ?? end, text: words.say("notHeld", step) }));
+  }
+  function frozen({ batch, found, history, end }, { from, to, holds, asked, until }, reported) {
+    const said = at => record.said(found, history, at), over = to === null ? null : said(to);
+    const more = [...asked.map(at => ({ at, text: said(at).answered })),
+      ...reported.filter(({ at }) => at >= from && at <= until), ...(holds ? unheld(batch, to, end) : []),
+      ...(over ? [{ at: to, text: to === batch.ended ? over.answered : over.asked }] : [])];
+    return deviation(from, words.say(holds ? "frozenHolding" : "frozen", batch.name), more);
+  }
+  // Each freeze with its holds, what was reported meanwhile, and its end. What a service did by itself is told alone.
   function held(context) {
-    const { batch, found, history, end } = context, said = at => record.said(found, history, at);
-    const reported = [...spansOf(context, "state", new Set(["hold", "pause"]))];
-    const logged = batch.log.at.filter((_, k) => ["hold", "unhold"].includes(batch.log.did[k].do));
-    const made = batch.freezes.map(({ from, to, holds }, k) => {
-      const next = batch.freezes[k + 1]?.from ?? end + 1, own = logged.filter(at => at >= from && at < next);
-      const until = Math.max(to ?? end, ...own), isIn = ({ at }) => at >= from && at <= until;
-      const more = [...own.map(at => ({ at, text: said(at).answered })), ...reported.filter(isIn),
-        ...(holds ? unheld(batch, to ?? end) : []),
-        ...(to === null ? [] : [{ at: to, text: to === batch.ended ? said(to).answered : said(to).asked }])];
-      reported.splice(0, reported.length, ...reported.filter(each => !isIn(each)));
-      return deviation(from, words.say(holds ? "frozenHolding" : "frozen", batch.name), more);
-    });
-    return [...made, ...reported.map(({ at, text }) => deviation(at, text))];
+    const { batch, end } = context, reported = [...spansOf(context, "state", new Set(["hold", "pause"]))];
+    const own = batch.freezes.map((each, k) => freezeOf(batch, each, batch.freezes[k + 1]?.from ?? end + 1, end));
+    const isIn = at => own.some(({ from, until }) => at >= from && at <= until);
+    return [...own.map(each => frozen(context, each, reported)), ...joined(reported.filter(({ at }) => !isIn(at)))];
   }
   function operated(context) {
     return [...spansOf(context, "mode", new Set(["mode"]))].map(({ at, text }) => deviation(at, text));

@@ -5,7 +5,7 @@
 const record = (() => {
   // By which entry of the log a run of a step is over.
   const OVER = new Set(["end", "stop", "left", "rest", "broke"]);
-  // The runs of a batch's steps, in the order of their starts: from its start to what ended it, each by its entry. A
+  // The runs of a batch's steps, in the order of their starts: from its start to what first ended it, by entries. A
   // loop may have begun a step several times.
   function runsOf(batch) {
     const made = [], open = new Map();
@@ -15,7 +15,7 @@ const record = (() => {
         made.push({ ...did, from: at, to: null, how: "", state: null });
         open.set(did.step, made[made.length - 1]);
       }
-      else if (run && OVER.has(deed)) Object.assign(run, { to: at, how: deed, state: did.state ?? null });
+      else if (run?.to === null && OVER.has(deed)) Object.assign(run, { to: at, how: deed, state: did.state ?? null });
     });
     return made;
   }
@@ -61,10 +61,11 @@ const record = (() => {
     }
     return made;
   }
-  // The stamp of an entry as it stands in its line, and whose line it is.
-  function stampAt(found, at) {
+  // The stamp of an entry as it stands in its line, in a column of stamps or among other words; and whose line it is.
+  function stampAt(found, at, isAlone = false) {
     const stamp = found.entry(at)[0]?.at;
-    return stamp === undefined ? "–" : words.stamp(stamp);
+    if (stamp === undefined) return "–";
+    return isAlone || words.isTime(stamp) ? words.stamp(stamp) : words.say("stampIs", words.stamp(stamp));
   }
   const who = (history, at) => (history.people.has(at) ? words.visible(history.people.get(at)) : words.say("notNamed"));
   return { runsOf, executed, deeds, said, stampAt, who };

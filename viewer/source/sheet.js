@@ -79,7 +79,7 @@ const sheet = (() => {
   function deeds(own) {
     const { batch, found, history } = own;
     const rows = record.deeds(batch, found, history).map(({ at, text, under: more }) => row([words.number(at + 1),
-      record.stampAt(found, at), record.who(history, at), [text, under(more)]]));
+      record.stampAt(found, at, true), record.who(history, at), [text, under(more)]]));
     return section("sheetDeeds", rows.length ? listed("sheetDeeds", "deeds", ["entry", "stamp", "lineBy", "what"], rows)
       : tables.calm(history.assumed ? "noAnswer" : "noStep"));
   }
