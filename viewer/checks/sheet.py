@@ -151,6 +151,12 @@ def check_faults(checks):
     whole = words_of(checks)
     checks.that('the same refusal again and again has one place',
                 whole.count('refused: Held') == 1 and '40 times in all' in whole, whole)
+    forged = [each for did in ('7', 'null', '{}', '{"do":"start","step":null}', '{"do":"left","step":"fill"}',
+                               '{"do":"chose","node":99,"values":[1]}', '{"do":"turn","values":7}')
+              for each in ('{"ev":"advance","at":1,"batch":"blue"}\n', '{"did":%s}\n' % did)]
+    checks.open(checks.kept('forged', ''.join(lines[:12] + forged[::2])),
+                checks.kept('forged.answers', ''.join(told[:11] + forged[1::2])))
+    checks.that('a forged log has its sheet', 'Signatures' in words_of(checks))
     checks.open(checks.data('hostile'), checks.data('hostile.answers'))
     for batch in checks.run('[...page.state.history.batches.keys()]'):
         checks.that('a hostile batch has its sheet', 'Signatures' in words_of(checks, batch))

@@ -234,6 +234,7 @@ const past = (() => {
       else if ("closed" in answer) all.shut(at, batch, answer.closed);
       else if ("did" in answer) {
         const { did } = answer;
+        if (!isOf(did, "object")) throw new TypeError("an entry of the log without its fields");
         batch.did(at, did);
         if (did.do === "broke") {
           all.alarm(at, "abort", { batch: batch.name }, "brokenBatch", batch.name, did.step, words.state(did.state));
