@@ -4,7 +4,7 @@
 "use strict";
 const deviations = (() => {
   // What is told of the reviewer's list as it stands there; the rest of that list is told here with what belongs to it.
-  const PLAIN = new Set(["deskPermitted", "deskOdd", "deskUnknown", "leftAlarm", "openBatch", "auditHere"]);
+  const PLAIN = new Set(["deskPermitted", "deskOdd", "deskUnknown", "leftAlarm", "notHeld", "openBatch", "auditHere"]);
   const ENDINGS = new Set(["stopAsked", "brokenBatch"]), CLOSINGS = new Set(["abnormal", "closedBatch"]);
   const HOLDS = new Set(["hold", "unhold"]), MOST_LINE = 200;
   const deviation = (at, text, more = [], isLoud = false) => ({ at, text, times: [at], more, isLoud });
@@ -65,15 +65,10 @@ const deviations = (() => {
     const asked = batch.log.at.filter((at, k) => at >= from && at < next && HOLDS.has(batch.log.did[k].do));
     return { from, to, holds, asked, until: Math.max(to ?? end, ...asked) };
   }
-  // Which steps still ran when a freeze with holds was over, and nobody had asked them to hold.
-  function unheld(batch, to, end) {
-    const running = [...batch.standing(to === null ? end : to - 1).steps].filter(([, { phase }]) => phase === "on");
-    return running.map(([step]) => ({ at: to ?? end, text: words.say("notHeld", step) }));
-  }
-  function frozen({ batch, found, history, end }, { from, to, holds, asked, until }, reported) {
+  function frozen({ batch, found, history }, { from, to, holds, asked, until }, reported) {
     const said = at => record.said(found, history, at), over = to === null ? null : said(to);
     const more = [...asked.map(at => ({ at, text: said(at).answered })),
-      ...reported.filter(({ at }) => at >= from && at <= until), ...(holds ? unheld(batch, to, end) : []),
+      ...reported.filter(({ at }) => at >= from && at <= until),
       ...(over ? [{ at: to, text: to === batch.ended ? over.answered : over.asked }] : [])];
     return deviation(from, words.say(holds ? "frozenHolding" : "frozen", batch.name), more);
   }

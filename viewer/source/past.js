@@ -124,6 +124,19 @@ const past = (() => {
       const { service, tag, state } = batch.left[batch.left.length - 1];
       this.alarm(at, "left", { batch: batch.name, tag }, "leftAlarm", service, tag, words.state(state));
     }
+    // A freeze with holds has asked all that it can once an advance is answered Frozen; what runs on is to be seen.
+    reached(at, batch) {
+      if (!batch.holds || batch.unheld !== null) return;
+      const isRunning = ({ service, tag }) => {
+        const { code } = this.modules.get(tag)?.services.get(service) ?? { code: null };
+        return code !== null && !modules.isAtRest(code) && !modules.isHeld(code);
+      };
+      batch.unheld = batch.running(at).filter(isRunning);
+      for (const { service, tag } of batch.unheld) {
+        const { code } = this.modules.get(tag).services.get(service);
+        this.alarm(at, "left", { batch: batch.name, tag }, "notHeld", service, tag, words.state(code));
+      }
+    }
     free(at, batch) {
       for (const tag of batch.tags) this.modules.get(tag)?.held(at, null);
       for (const tag of Object.values(batch.watch)) this.modules.get(tag)?.watched(at, batch.name, false);
@@ -230,7 +243,10 @@ const past = (() => {
       const batch = all.batches.get(event.batch);
       if (!batch) return;
       batch.ask(at);
-      if ("wait" in answer) batch.wait(at, answer);
+      if ("wait" in answer) {
+        batch.wait(at, answer);
+        if (answer.wait === "Frozen") all.reached(at, batch);
+      }
       else if ("closed" in answer) all.shut(at, batch, answer.closed);
       else if ("did" in answer) {
         const { did } = answer;
