@@ -41,6 +41,7 @@ def check_one_batch(checks):
     to_paper(checks, 'after')
     checks.choose('chosenTag', '')
     checks.choose('chosenBatch', 'blue')
+    checks.says('and the button says so', 'print', 'Print the sheet to sign')
     to_paper(checks, 'before')
     checks.says('paper of one batch is its sheet', 'paper', 'Batch record: blue', 'In the files: 101 entries')
     checks.gives('and has a chart and no other log', """['#paper figure svg', '#paper .log li']

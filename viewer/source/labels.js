@@ -5,7 +5,7 @@ const labels = {
   // The page and its parts.
   title: ["What happened in the plant", "Was in der Anlage geschah"],
   open: ["Open files", "Dateien öffnen"],
-  print: ["Print", "Drucken"],
+  print: ["Print", "Drucken"], printSheet: ["Print the sheet to sign", "Blatt zum Unterschreiben drucken"],
   drop: ["Drop here what pol wrote", "Hier ablegen, was pol schrieb"],
   dropMore: ["The output of the job plant, or a journal together with the output of its replay or of the job guard. "
     + "What the job find says, the verdict of the job audit and the site may come along. A pol.journal is read too. "

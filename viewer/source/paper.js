@@ -184,5 +184,5 @@ const paper = (() => {
     holder.replaceChildren();
     document.adoptedStyleSheets = [];
   }
-  return { fill, empty };
+  return { batchOf, fill, empty };
 })();
