@@ -5,7 +5,7 @@ import re
 # What has to stand on paper of the journal in which a batch breaks.
 WANTED = ('101 entries', '2026-11-29 06:00:04.000 UTC', '2026-11-29 06:05:57.500 UTC', 'Broken', 'Stopped', 'Abandoned',
           'never started', 'InExchange', 'Abort: stir, K11', 'Stop: heat, K11', 'Kettle 2.0.0', 'Kettle 2.1.0',
-          'no verdict', 'Signature', 'Its start was refused once')
+          'no verdict', 'Signature', 'Performed', 'Reviewed', 'Approved', 'not named', 'Its start was refused once')
 
 
 def check(checks):

@@ -31,15 +31,13 @@ const paper = (() => {
   function desk(found, history, chosen) {
     const shown = history.desk.filter(at => chosen.fits(at, history.names[at], history.tags[at]));
     if (!shown.length) return section("signDesk", tables.calm(chosen.none("signNoDesk")));
-    const { people } = history, isNamed = shown.some(at => people.has(at));
     const rows = shown.map(at => {
-      const [event, answer] = found.entry(at), who = isNamed ? [tables.name(people.get(at) ?? "–")] : [];
+      const [event, answer] = found.entry(at);
       const command = words.visible(`${words.command(event.CommandOp)}: ${event.service}, ${event.tag}`);
       const told = answer && "did" in answer ? words.say("permitted") : words.answer(answer);
-      return [words.number(at + 1), words.stamp(event.at), ...who, command, told];
+      return [words.number(at + 1), words.stamp(event.at), record.who(history, at), command, told];
     });
-    const keys = ["entry", "stamp", ...(isNamed ? ["who"] : []), "command", "answer"];
-    return section("signDesk", cut(keys, rows, "signDesk"));
+    return section("signDesk", cut(["entry", "stamp", "who", "command", "answer"], rows, "signDesk"));
   }
   function exchanges(history, chosen) {
     const shown = history.exchanges.filter(each => chosen.fits(each.begun, each.batch, each.tag));
