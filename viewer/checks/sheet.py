@@ -28,6 +28,7 @@ BREAKS = {'#paper h2': ('breakAfter', 'avoid'), '#paper tr': ('breakInside', 'av
 def check(checks):
     check_stored(checks)
     check_kinds(checks)
+    check_build(checks)
     check_recipe(checks)
     check_names(checks)
     check_faults(checks)
@@ -94,6 +95,18 @@ def row_of(file):
     text = file.read_bytes()
     size = re.sub(r'(?<=\d)(?=\d{3}$)', ' ', str(len(text))) if len(text) > 9999 else len(text)
     return '%s | %s | %s' % (file.name, size, re.sub(r'(.{8})(?=.)', r'\1 ', hashlib.sha256(text).hexdigest()))
+
+
+def check_build(checks):
+    """The program is what its own word says, also as a package has it, beside a journal with its output in one file."""
+    build = checks.folder / 'version.txt'
+    build.write_text('version  0.1+46e7fc26\n' + BUILD + '\n0123  usr/bin/pol\n')
+    whole = checks.kept('whole', ''.join(file.read_text() for file in (checks.data('holding'),
+                                                                       checks.data('holding.answers'))))
+    checks.open(whole, build)
+    told = words_of(checks)
+    checks.that('the program of a package', '(pol --version): version 0.1+46e7fc26 · commit 46e7fc26 · kit 1 ·' in told)
+    checks.that('and the file beside it is read as it is', '5 | 5 | not named | Start is asked for' in told, told)
 
 
 def check_recipe(checks):

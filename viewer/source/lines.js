@@ -4,8 +4,12 @@
 "use strict";
 const lines = (() => {
   const SLICE = 5000;
-  // What the words --version are answered, of which each package has a file.
-  const VERSION = /^commit +(?<commit>\S[^\n]*)\nkit +(?<kit>\S[^\n]*)\nprogram +(?<program>\S[^\n]*)\n/;
+  // What the words --version are answered, as a package has it in a file too: names and what they are, a line each.
+  const VERSION = /^(?:version +\S[^\n]*\n)?commit +\S[^\n]*\nkit +\S[^\n]*\nprogram +\S[^\n]*\n/;
+  function versionIn(text) {
+    const told = VERSION.exec(text)?.[0].trimEnd().split("\n");
+    return told ? told.map(line => line.replace(/ +/, " ")).join(" · ") : null;
+  }
   const ANSWERS = ["done", "ticket", "did", "wait", "closed", "refused", "bad", "denied"];
   const isObject = value => typeof value === "object" && value !== null && !Array.isArray(value);
   function parsed(text) { try { return JSON.parse(text); } catch { return undefined; } }
@@ -143,17 +147,15 @@ const lines = (() => {
     }
   }
   async function read(files, progress) {
-    const found = new Found(files), size = files.reduce((sum, file) => sum + file.text.length, 0),
-      alone = files.length === 1;
+    const found = new Found(files), size = files.reduce((sum, file) => sum + file.text.length, 0);
+    const versions = files.map(({ text }) => versionIn(text));
+    const alone = versions.filter(each => each === null).length === 1;
+    found.build = versions.find(each => each !== null) ?? null;
     let before = 0;
     for (let file = 0; file < files.length; file += 1) {
-      const { text } = files[file], own = VERSION.exec(text)?.groups;
-      if (own) {
-        found.build = { ...own };
-        continue;
-      }
-      const journal = { on: isJournal(text, alone), alone, begun: false };
-      for (let at = 0, line = 1; at < text.length; line += 1) {
+      const { text } = files[file], isRead = versions[file] === null;
+      const journal = { on: isRead && isJournal(text, alone), alone, begun: false };
+      for (let at = 0, line = 1; isRead && at < text.length; line += 1) {
         const end = lineEnd(text, at), [from, to] = trimmed(text, at, end);
         if (from < to) sort(found, file, from, to, line, journal);
         at = end + 1;

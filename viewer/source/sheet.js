@@ -54,8 +54,7 @@ const sheet = (() => {
   }
   // By which program the answers were given: as its own word says that came along, else to be filled in.
   function build({ found: { build: own } }) {
-    const said = own ? Object.entries(own).map(([key, text]) => `${key} ${text}`).join(" · ") : null;
-    return make("p", { class: "why" }, `${words.say("program")}: `, said ? words.visible(said) : blank());
+    return make("p", { class: "why" }, `${words.say("program")}: `, own === null ? blank() : words.visible(own));
   }
   const HOW = { end: "howEnd", stop: "howStop", left: "howLeft", rest: "howRest", broke: "howBroke" };
   function over(own, run) {
