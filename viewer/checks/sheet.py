@@ -28,6 +28,7 @@ BREAKS = {'#paper h2': ('breakAfter', 'avoid'), '#paper tr': ('breakInside', 'av
 def check(checks):
     check_stored(checks)
     check_kinds(checks)
+    check_warnings(checks)
     check_build(checks)
     check_recipe(checks)
     check_names(checks)
@@ -95,6 +96,21 @@ def row_of(file):
     text = file.read_bytes()
     size = re.sub(r'(?<=\d)(?=\d{3}$)', ' ', str(len(text))) if len(text) > 9999 else len(text)
     return '%s | %s | %s' % (file.name, size, re.sub(r'(.{8})(?=.)', r'\1 ', hashlib.sha256(text).hexdigest()))
+
+
+def check_warnings(checks):
+    """Above the signatures stands that an audit found the answers wrong; and without answers nothing is claimed."""
+    lines = checks.data('site').read_text().splitlines(keepends=True)[:-1]
+    lines[10] = lines[10].replace('"refused":30,"rule":"ModeForbids"', '"done":true')
+    verdict = '{"audit":"bad","place":10,"says":{"refused":30,"rule":"ModeForbids"},"why":"Answer"}\n'
+    checks.open(checks.kept('wrong', ''.join(lines) + verdict))
+    told = words_of(checks, 'morning').partition('\nSignatures\n')[2]
+    checks.that('a wrong verdict stands above the signatures', told.startswith('audit: wrong, entry 11 of 113'), told)
+    checks.open(signed(checks)[0])
+    told = words_of(checks)
+    for text in ('Outcome | unknown', 'Closed | unknown', 'Steps, with their settings\nno answer in the files',
+                 'Commands and decisions, in order\nno answer in the files'):
+        checks.that('without answers the sheet says so: ' + text[:20], text in told, told)
 
 
 def check_build(checks):

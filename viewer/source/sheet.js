@@ -15,6 +15,8 @@ const sheet = (() => {
     table.className = style;
     return table;
   }
+  // What is said where nothing is there: without answers nobody knows.
+  const none = ({ history }, key) => tables.calm(history.assumed ? "noAnswer" : key);
   const row = cells => make("tr", {}, ...cells.map(cell => make("td", {}, ...[cell].flat())));
   // An entry with its stamp and whose line it is.
   const parts = ({ found, history }, at) => [words.say("entryAt", words.number(at + 1)), record.stampAt(found, at),
@@ -28,16 +30,18 @@ const sheet = (() => {
   const moment = ({ found }, at) => block(words.say("entryAt", words.number(at + 1)), under(record.stampAt(found, at)));
   // What the batch was, as two columns.
   function facts(own) {
-    const { batch, history } = own, { known } = batch, { stamps } = history, isOpen = batch.ended === null;
-    const outcome = batch.outcome ?? words.say(history.assumed ? "unknown" : "running");
+    const { batch, history } = own, { known, ended } = batch, { stamps, assumed } = history;
+    const outcome = batch.outcome ?? words.say(assumed ? "unknown" : "running");
+    const closed = ended === null ? words.say(assumed ? "unknown" : "notClosed") : given(own, ended);
     const sum = known?.sum ? make("span", { class: "sum" }, known.sum) : words.say(known ? "signNoSum" : "noRecipe");
-    const end = batch.ended ?? stamps.length - 1, left = batch.left.filter(({ state }) => !modules.isAtRest(state));
+    const left = batch.left.map(each => make("b", { class: "left block" }, words.left(each)));
     const rows = [
       ["batch", tables.name(batch.name)], ["recipe", tables.name(batch.recipe)],
       ["recipeSum", sum], ["recipeKnown", known ? given(own, known.at) : "–"], ["recipeVersion", blank()],
-      ["outcome", make("b", {}, outcome), ...left.map(each => make("b", { class: "left block" }, words.left(each)))],
-      ["startedAt", given(own, batch.started)], ["closedAt", isOpen ? words.say("notClosed") : given(own, batch.ended)],
-      ["duration", words.lasted(stamps[batch.started], stamps[end]) || "–"], ["modules", ...played(batch, history)],
+      ["outcome", make("b", {}, outcome), ...left],
+      ["startedAt", given(own, batch.started)], ["closedAt", closed],
+      ["duration", words.lasted(stamps[batch.started], stamps[ended ?? stamps.length - 1]) || "–"],
+      ["modules", ...played(batch, history)],
     ];
     const fact = ([key, ...cells]) => make("tr", {}, make("th", { scope: "row" }, words.say(key)),
       make("td", {}, ...cells));
@@ -73,14 +77,13 @@ const sheet = (() => {
   function steps(own) {
     const rows = record.runsOf(own.batch).map(run => stepRow(own, run));
     const keys = ["step", "service", "settings", "startAsked", "inExecute", "stepOver"];
-    return section("sheetSteps", rows.length ? listed("sheetSteps", "steps", keys, rows) : tables.calm("noStep"));
+    return section("sheetSteps", rows.length ? listed("sheetSteps", "steps", keys, rows) : none(own, "noStep"));
   }
   function deeds(own) {
-    const { batch, found, history } = own;
+    const { batch, found, history } = own, keys = ["entry", "stamp", "lineBy", "what"];
     const rows = record.deeds(batch, found, history).map(({ at, text, under: more }) => row([words.number(at + 1),
       record.stampAt(found, at, true), record.who(history, at), [text, under(more)]]));
-    return section("sheetDeeds", rows.length ? listed("sheetDeeds", "deeds", ["entry", "stamp", "lineBy", "what"], rows)
-      : tables.calm(history.assumed ? "noAnswer" : "noStep"));
+    return section("sheetDeeds", rows.length ? listed("sheetDeeds", "deeds", keys, rows) : none(own, "noStep"));
   }
   // All that a deviation has, each further part with its own entry, stamp and line.
   function told(own, { text, times, more, isLoud }) {
@@ -100,8 +103,8 @@ const sheet = (() => {
     const { batch, found, history } = own, all = deviations.of(batch, found, history);
     const rows = all.map((each, k) => deviationRow(own, each, k)), keys = ["number", "placeOf", "what", "comment"];
     const further = make("div", { class: "why whole" }, words.say("furtherDeviations"), wide(), wide());
-    return section("sheetDeviations", rows.length ? listed("sheetDeviations", "deviations", keys, rows)
-      : tables.calm(history.assumed ? "noAnswer" : "noDeviation"), further);
+    const table = rows.length ? listed("sheetDeviations", "deviations", keys, rows) : none(own, "noDeviation");
+    return section("sheetDeviations", table, further);
   }
   const MEANINGS = ["performed", "reviewed", "approved"];
   // Who signs, and what for.
@@ -109,8 +112,9 @@ const sheet = (() => {
     const meant = key => [make("b", {}, words.say(key)), under(words.say(`${key}More`))];
     const rows = MEANINGS.map(key => row([meant(key), "", "", ""]));
     const table = listed("signatures", "signatures", ["meaning", "signName", "signDate", "signed"], rows);
-    const none = verdict.style === "none" ? make("p", { class: "only" }, words.say("signUnaudited")) : "";
-    return make("section", { class: "whole" }, make("h2", {}, words.say("signatures")), none, table);
+    const warning = { none: words.say("signUnaudited"), bad: verdict.inWords }[verdict.style];
+    return make("section", { class: "whole" }, make("h2", {}, words.say("signatures")),
+      warning ? make("p", { class: "only" }, warning) : null, table);
   }
   // Who printed it and when, and what the words on it mean.
   function notes() {
