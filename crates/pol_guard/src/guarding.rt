@@ -8,14 +8,15 @@ ghost use Rattle.pol_guard.specs.Guarded.{policy_said};
 ghost use Rattle.pol_guard.specs.Guards.{known_by};
 ghost use Rattle.pol_guard.specs.Work.{waiting};
 
-use crate::replying::reply_to;
+use crate::replying::GuardedPlant;
 use event_json::is_blank;
 use mtp_json::{FaultKind, JsonFault, JsonRefusal, Path};
 use pol_core::Plant;
 use pol_io::Sink;
 use pol_jobs::{InputLine, LineJob, PutFault, Stop};
+use pol_lines::GuardedLines;
 use pol_policy::{Policy, read_policy};
-use pol_replay::close;
+use pol_replay::{answer_line, close};
 use std::alloc::Global;
 use std::convert::Infallible;
 
@@ -25,7 +26,7 @@ pub enum Guard {
     /// Nothing: all lines were blank.
     Waiting,
     /// The policy, and the plant behind it.
-    Begun { policy: Policy, plant: Plant },
+    Begun(GuardedPlant),
 }
 
 // Whether a line isn't blank.
@@ -122,13 +123,18 @@ impl LineJob for Guarding {
                 if !is_some_line(line) {
                     return Ok(());
                 }
-                let policy = policy_said(self.alloc, line)?;
-                let plant = Plant::new(self.alloc);
-                self.guard = Guard::Begun { policy, plant };
+                let alloc = self.alloc;
+                let policy = policy_said(alloc, line)?;
+                let plant = Plant::new(alloc);
+                self.guard = Guard::Begun(GuardedPlant {
+                    alloc,
+                    policy,
+                    plant,
+                });
             }
-            Guard::Begun { policy, plant } => {
-                reply_to(self.alloc, policy, plant, line, out)?;
-            }
+            Guard::Begun(guarded) => answer_line::<GuardedLines, _>(
+                self.alloc, line, guarded, out,
+            )?,
         }
         Ok(())
     }
@@ -140,7 +146,7 @@ impl LineJob for Guarding {
     fn end(&mut self) -> Result<(), Stop<JsonFault, Infallible>> {
         match &self.guard {
             Guard::Waiting => Err(Stop::Refused(whole(self.alloc, FaultKind::Missing))),
-            Guard::Begun { .. } => Ok(()),
+            Guard::Begun(_) => Ok(()),
         }
     }
 
@@ -148,7 +154,7 @@ impl LineJob for Guarding {
     fn close<K: Sink>(&mut self, sink: &mut K) -> Result<(), PutFault> {
         match &self.guard {
             Guard::Waiting => close(self.alloc, &[], sink),
-            Guard::Begun { plant, .. } => close(self.alloc, plant.history(), sink),
+            Guard::Begun(guarded) => close(self.alloc, guarded.plant.history(), sink),
         }
     }
 }
