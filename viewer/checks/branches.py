@@ -24,7 +24,7 @@ WANTED = {
     'ice': ('waits: frozen', [
         'stir: asked to hold · stir of K14 was reported last in Held',
         'heat: runs · heat of K14 was reported last in Execute, Operator, Internal · ' + WARM
-        + ' · kettle.temperature was reported last as 20.5']),
+        + " · kettle.temperature was reported last as 20.5 · the hold doesn't reach it: go and look"]),
     'again': ('waits: step mix may not command (ModeForbids)', [
         'mix: not begun · stir of K15 was reported last in Idle, Operator, Internal']),
     'off': ('last: from now on each advance asks a step for Stop, or leaves it', []),

@@ -5,7 +5,7 @@ import re
 # What has to stand on paper of the journal in which a batch breaks.
 WANTED = ('101 entries', '2026-11-29 06:00:04.000 UTC', '2026-11-29 06:05:57.500 UTC', 'Broken', 'Stopped', 'Abandoned',
           'never started', 'InExchange', 'Abort: stir, K11', 'Stop: heat, K11', 'Kettle 2.0.0', 'Kettle 2.1.0',
-          'no verdict', 'Signature', 'Its start was refused once')
+          'no verdict', 'Signature', 'Performed', 'Reviewed', 'Approved', 'not named', 'Its start was refused once')
 
 
 def check(checks):
@@ -33,11 +33,19 @@ def to_paper(checks, when):
 
 
 def check_one_batch(checks):
-    checks.choose('chosenBatch', 'blue')
+    checks.choose('chosenTag', 'K12')
     to_paper(checks, 'before')
-    checks.says('paper of one batch says so', 'paper', 'only what was chosen: Batch blue', 'In the files: 101 entries')
+    checks.says('paper of one module says so', 'paper', 'only what was chosen: Module K12', 'In the files: 101 entries')
     outcomes = "document.querySelector('#paper [aria-label=\"Batches and their outcome\"] tbody').textContent"
     checks.is_true('and has no other', outcomes + ".includes('blue') && !%s.includes('red')" % outcomes)
+    to_paper(checks, 'after')
+    checks.choose('chosenTag', '')
+    checks.choose('chosenBatch', 'blue')
+    checks.says('and the button says so', 'print', 'Print the sheet to sign')
+    to_paper(checks, 'before')
+    checks.says('paper of one batch is its sheet', 'paper', 'Batch record: blue', 'In the files: 101 entries')
+    checks.gives('and has a chart and no other log', """['#paper figure svg', '#paper .log li']
+        .map(each => document.querySelectorAll(each).length)""", [1, 0])
     to_paper(checks, 'after')
 
 

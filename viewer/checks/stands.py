@@ -24,6 +24,7 @@ SEEN = re.compile(r'\b(sent|sends|goes to|gesandt|sandte|geht an)\b')
 
 def check(checks):
     check_left(checks)
+    check_held(checks)
     check_permitted(checks)
     check_still(checks)
     check_stamps(checks)
@@ -50,6 +51,18 @@ def check_left(checks):
     checks.run(PAPER % 'after')
     checks.open(checks.data('broken'), checks.data('broken.answers'))
     checks.gives('what was left at rest is no alarm', "document.querySelectorAll('#alarms b.left').length", 0)
+
+
+def check_held(checks):
+    """A freeze that holds reached one step; the other one runs on, which is told in red once nothing more is asked."""
+    checks.open(checks.data('signed'), checks.data('signed.answers'))
+    told = """page.state.history.alarms.filter(each => each.key === 'notHeld').map(each => each.at + 1)"""
+    checks.gives('a hold that reached not all is told once', told, [56])
+    red = "[...document.querySelectorAll('#alarms b.left')].map(each => getComputedStyle(each).color)"
+    checks.gives('in red', red, [RED, RED])
+    checks.says('with what runs on', 'alarms', 'heat of K11 runs on in Execute, though its batch is to hold')
+    checks.open(checks.data('holding'), checks.data('holding.answers'))
+    checks.gives('one that reached all is no alarm', told, [])
 
 
 def check_permitted(checks):

@@ -79,7 +79,7 @@ def seal_of(checks):
 
 def sets(checks):
     """The files of each example: a history, or a journal and its output."""
-    names = ('broken', 'hostile', 'watched', 'holding', 'left', 'still', 'branches')
+    names = ('broken', 'hostile', 'watched', 'holding', 'left', 'still', 'branches', 'signed')
     pair = {name: [checks.data(name), checks.data(name + '.answers')] for name in names}
     example = {name: [checks.example(name + '.jsonl'), checks.data(name + '.answers')] for name in ('blend', 'policy')}
     return {'site': [checks.data('site')], **example, **pair}
@@ -143,7 +143,7 @@ def check_program(checks):
         if len(files) == 1:
             continue
         journal, answers = files
-        made_now = run('guard' if name == 'policy' else 'replay', journal.read_bytes())
+        made_now = run('guard' if name in ('policy', 'signed') else 'replay', journal.read_bytes())
         checks.that(name + ': the stored output is the program\'s', made_now == answers.read_bytes())
     plant = run('plant', checks.example('site.json').read_bytes())
     history = checks.kept('run', (plant + run('audit', plant)).decode())

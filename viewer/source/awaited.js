@@ -61,7 +61,9 @@ const awaited = (() => {
     const phase = words.say(own.completes && own.phase === "on" ? "phase_finish" : `phase_${own.phase}`);
     const isRead = node.finish && own.phase === "on" && !own.completes;
     const read = isRead ? condition(place.told(node.finish), place.values(node.finish)) : [];
-    return [`${node.step}: ${phase}`, reported(tag, node.service, module, cursor), ...read, lacking(node, own, last)];
+    const isUnheld = batch.frozen && own.phase === "on" && batch.unheld?.some(each => each.step === node.step);
+    return [`${node.step}: ${phase}`, reported(tag, node.service, module, cursor), ...read, lacking(node, own, last),
+      isUnheld ? words.say("unheld") : ""];
   }
   function ofNode(node, number, place) {
     const conditions = recipes.conditions(node), told = conditions.map(place.told);
@@ -77,5 +79,5 @@ const awaited = (() => {
       return words.visible(parts.filter(part => part).join(" · "));
     });
   }
-  return { at, keys, told };
+  return { at, keys, told, condition };
 })();

@@ -5,7 +5,7 @@ const labels = {
   // The page and its parts.
   title: ["What happened in the plant", "Was in der Anlage geschah"],
   open: ["Open files", "Dateien öffnen"],
-  print: ["Print", "Drucken"],
+  print: ["Print", "Drucken"], printSheet: ["Print the sheet to sign", "Blatt zum Unterschreiben drucken"],
   drop: ["Drop here what pol wrote", "Hier ablegen, was pol schrieb"],
   dropMore: ["The output of the job plant, or a journal together with the output of its replay or of the job guard. "
     + "What the job find says, the verdict of the job audit and the site may come along. A pol.journal is read too. "
@@ -87,6 +87,8 @@ const labels = {
   brokenBatch: ["batch {0} broke: step {1} found its service in {2}",
     "Charge {0} brach: Schritt {1} fand seinen Dienst in {2}"],
   leftAlarm: ["{0} of {1} was left in {2}: go and look", "{0} von {1} wurde in {2} verlassen: nachsehen"],
+  notHeld: ["{0} of {1} runs on in {2}, though its batch is to hold: go and look",
+    "{0} von {1} läuft in {2} weiter, obwohl die Charge halten soll: nachsehen"],
   closedBatch: ["batch {0} was closed as {1}", "Charge {0} endete als {1}"],
   closedAs: ["closed as {0}", "geschlossen als {0}"],
   openBatch: ["batch {0} is still running at the end", "Charge {0} läuft am Ende noch"],
@@ -245,6 +247,7 @@ const labels = {
   lastValue: ["{0} was reported last as {1}", "{0} wurde zuletzt mit {1} gemeldet"],
   noValue: ["{0} wasn't reported since it was docked", "{0} wurde seit dem Andocken nicht gemeldet"],
   notEnabled: ["that report doesn't enable {0}", "diese Meldung gibt {0} nicht frei"],
+  unheld: ["the hold doesn't reach it: go and look", "das Halten erreicht ihn nicht: nachsehen"],
   armOpen: ["no arm of node {0} is chosen yet", "noch kein Zweig von Knoten {0} ist gewählt"],
   loopOpen: ["all in loop {0} is through: it turns or is left",
     "alles in Schleife {0} ist zu Ende: sie läuft noch einmal oder wird verlassen"],
@@ -266,6 +269,77 @@ const labels = {
   signMoreLog: ["{0} further entries of the log aren't on paper: choose this batch and print again.",
     "{0} weitere Einträge des Protokolls stehen nicht auf dem Papier: diese Charge auswählen und erneut drucken."],
   permitted: ["permitted", "erlaubt"], cancelled: ["cancelled", "abgesagt"], notEnded: ["not ended", "nicht beendet"],
+  byWhom: [" (by {0})", " (durch {0})"],
+  signMore: ["This is a record of the files. For the sheet of one batch with its steps, deviations and comments "
+    + "choose that "
+    + "batch and print.",
+    "Dies ist ein Protokoll der Dateien. Für das Blatt einer Charge mit Schritten, Abweichungen und Bemerkungen die "
+    + "Charge "
+    + "auswählen und drucken."],
+  // The sheet to sign of one batch.
+  sheetTitle: ["Batch record: {0}", "Chargenprotokoll: {0}"], sheetBatch: ["The batch", "Die Charge"],
+  recipeSum: ["Recipe, SHA-256", "Rezept, SHA-256"], recipeKnown: ["Recipe made known", "Rezept bekannt gemacht"],
+  recipeVersion: ["Version of the recipe, approved by", "Version des Rezepts, freigegeben von"],
+  startedAt: ["Started", "Gestartet"], closedAt: ["Closed", "Geschlossen"],
+  notClosed: ["not closed at the end of the files", "am Ende der Dateien nicht geschlossen"],
+  onlyWatched: ["only watched", "nur beobachtet"],
+  stampIs: ["stamp {0}", "Stempel {0}"],
+  entryAt: ["entry {0}", "Eintrag {0}"], noEntry: ["in the files", "in den Dateien"],
+  givenBy: ["line given by: {0}", "Zeile von: {0}"], notNamed: ["not named", "nicht genannt"],
+  lineBy: ["Line given by", "Zeile von"],
+  placeOf: ["Entry, stamp, line given by", "Eintrag, Stempel, Zeile von"],
+  program: ["Program and build that gave the answers (pol --version)",
+    "Programm und Stand, von dem die Antworten sind (pol --version)"],
+  sheetSteps: ["Steps, with their settings", "Schritte, mit ihren Einstellungen"], step: ["Step", "Schritt"],
+  settings: ["Settings", "Einstellungen"], startAsked: ["Start asked for", "Start verlangt"],
+  inExecute: ["By reports: first in Execute, out of it at last", "Nach Meldungen: zuerst in Execute, zuletzt heraus"],
+  stepOver: ["How it ended", "Wie er endete"],
+  noStep: ["No step was started.", "Kein Schritt wurde gestartet."],
+  procedureIs: ["procedure {0}", "Prozedur {0}"],
+  neverExecuted: ["never", "nie"], noOther: ["no other state since", "seither kein anderer Zustand"],
+  howEnd: ["ended", "zu Ende"], howStop: ["asked to stop", "soll stoppen"],
+  howRest: ["left at rest", "in Ruhe verlassen"],
+  howLeft: ["left in {0}: go and look", "in {0} verlassen: nachsehen"], howBroke: ["broke in {0}", "brach in {0}"],
+  howOpen: ["not ended when the batch was closed", "nicht zu Ende, als die Charge geschlossen wurde"],
+  sheetDeeds: ["Commands and decisions, in order", "Befehle und Entscheidungen, der Reihe nach"],
+  sheetDeviations: ["Deviations", "Abweichungen"], number: ["No", "Nr."],
+  comment: ["Comment, initials, date", "Bemerkung, Kürzel, Datum"],
+  noDeviation: ["None stands in the files.", "In den Dateien steht keine."],
+  furtherDeviations: ["Further ones, which aren't in the files:", "Weitere, die nicht in den Dateien stehen:"],
+  againAt: ["{0} in all, also at entries {1}", "insgesamt {0}, auch bei den Einträgen {1}"],
+  badNear: ["a line at fault names the batch:", "eine fehlerhafte Zeile nennt die Charge:"],
+  cameTo: ["{0} of {1} was reported in {2}", "{0} von {1} wurde in {2} gemeldet"],
+  exchangedFor: ["{0} was exchanged: {1} before, {2} after", "{0} wurde getauscht: vorher {1}, nachher {2}"],
+  exchangeOver: ["{0} is back", "{0} ist zurück"],
+  signatures: ["Signatures", "Unterschriften"], meaning: ["Meaning", "Bedeutung"],
+  performed: ["Performed", "Durchgeführt"],
+  performedMore: ["What stands here is what I did and saw.", "Was hier steht, ist, was ich tat und sah."],
+  reviewed: ["Reviewed", "Geprüft"],
+  reviewedMore: ["I went through this record and each deviation, and compared the checksums with those of the files.",
+    "Ich bin dieses Protokoll und jede Abweichung durchgegangen und habe die Prüfsummen mit denen der Dateien "
+    + "verglichen."],
+  approved: ["Approved", "Freigegeben"],
+  approvedMore: ["On this record I decide: accepted · rejected (strike one out).",
+    "Nach diesem Protokoll entscheide ich: angenommen · verworfen (eines streichen)."],
+  signUnaudited: ["No verdict of an audit is shown: nothing here says that these answers are those of these events.",
+    "Kein Urteil eines Audits ist gezeigt: nichts hier sagt, dass diese Antworten die dieser Ereignisse sind."],
+  printedAt: ["Printed, by this machine's clock", "Gedruckt, nach der Uhr dieses Rechners"], printedBy: ["by", "von"],
+  stampsMean: ["A stamp is the number at in a line, as whoever wrote the line gave it: pol keeps it and compares it "
+    + "with "
+    + "nothing. Milliseconds since 1970 are shown as a date in UTC, other numbers as they are.",
+    "Ein Stempel ist die Zahl at einer Zeile, wie sie angab, wer die Zeile schrieb: pol bewahrt sie auf und "
+    + "vergleicht sie "
+    + "mit nichts. Millisekunden seit 1970 sind als Datum in UTC gezeigt, andere Zahlen, wie sie sind."],
+  namesMean: ["Who gave a line is the name that its by has; pol believes it. Beside a command of a recipe it is "
+    + "whoever let the batch go on: which command that is the recipe says.",
+    "Von wem eine Zeile ist, sagt der Name in ihrem by; pol glaubt ihn. Neben einem Befehl des Rezepts ist es, wer die "
+    + "Charge weiterlaufen ließ: welcher Befehl das ist, sagt das Rezept."],
+  recipeMeans: ["The recipe's checksum is of its chart, name and roles in compact form, keys in order, each step "
+    + "with its "
+    + "settings: one recipe has one checksum in every file.",
+    "Die Prüfsumme des Rezepts gilt seinem Plan, Namen und Rollen in knapper Form, die Schlüssel geordnet, jeder "
+    + "Schritt mit "
+    + "seinen Einstellungen: ein Rezept hat in jeder Datei dieselbe."],
   // Events.
   plug: ["module {tag} is plugged: {desc.type} {desc.version}",
     "Modul {tag} wird gesteckt: {desc.type} {desc.version}"],

@@ -4,6 +4,12 @@
 "use strict";
 const lines = (() => {
   const SLICE = 5000;
+  // What the words --version are answered, as a package has it in a file too: names and what they are, a line each.
+  const VERSION = /^(?:version +\S[^\n]*\n)?commit +\S[^\n]*\nkit +\S[^\n]*\nprogram +\S[^\n]*\n/;
+  function versionIn(text) {
+    const told = VERSION.exec(text)?.[0].trimEnd().split("\n");
+    return told ? told.map(line => line.replace(/ +/, " ")).join(" · ") : null;
+  }
   const ANSWERS = ["done", "ticket", "did", "wait", "closed", "refused", "bad", "denied"];
   const isObject = value => typeof value === "object" && value !== null && !Array.isArray(value);
   function parsed(text) { try { return JSON.parse(text); } catch { return undefined; } }
@@ -45,7 +51,7 @@ const lines = (() => {
   class Found {
     constructor(files) {
       Object.assign(this, { files, whole: new Places(), events: new Places(), answers: new Places(), batches: [],
-        faults: [], verdicts: [], policy: null, finder: null, site: null, ends: 0 });
+        faults: [], verdicts: [], policy: null, finder: null, site: null, build: null, ends: 0 });
     }
     get length() { return this.whole.length + this.lead.length; }
     get hasAnswers() { return this.whole.length > 0 || this.answers.length > 0; }
@@ -75,7 +81,14 @@ const lines = (() => {
     fileOf(k) {
       return this.files[k < this.whole.length ? this.whole.file[k] : this.lead.file[k - this.whole.length]].name;
     }
-    fault(file, line, why) { this.faults.push({ file: this.files[file].name, line, why }); }
+    fault(file, line, why, from, to) {
+      this.faults.push({ file: this.files[file].name, line, why, place: [file, from, to] });
+    }
+    // The line at fault as it stands in its file; nothing where the file couldn't be read.
+    faultText({ place }) {
+      const [file, from, to] = place ?? [];
+      return place ? this.files[file].text.slice(from, to) : "";
+    }
     // A policy is no event and has no answer. Where there is an answer more than events, it was read as an event, as a
     // replay does.
     settle() {
@@ -128,15 +141,21 @@ const lines = (() => {
     else if (kind === "binding" || (kind === "end" && "bad" in value)) found.bound(value);
     else if (kind === "end") found.ends += 1;
     else if (kind === "verdict") found.verdicts.push(value);
-    else found.fault(file, line, kind === "summary" ? kind : value === undefined ? "notJson" : "unknownForm");
+    else {
+      const why = kind === "summary" ? kind : value === undefined ? "notJson" : "unknownForm";
+      found.fault(file, line, why, from, to);
+    }
   }
   async function read(files, progress) {
-    const found = new Found(files), size = files.reduce((sum, file) => sum + file.text.length, 0),
-      alone = files.length === 1;
+    const found = new Found(files), size = files.reduce((sum, file) => sum + file.text.length, 0);
+    const versions = files.map(({ text }) => versionIn(text));
+    const alone = versions.filter(each => each === null).length === 1;
+    found.build = versions.find(each => each !== null) ?? null;
     let before = 0;
     for (let file = 0; file < files.length; file += 1) {
-      const { text } = files[file], journal = { on: isJournal(text, alone), alone, begun: false };
-      for (let at = 0, line = 1; at < text.length; line += 1) {
+      const { text } = files[file], isRead = versions[file] === null;
+      const journal = { on: isRead && isJournal(text, alone), alone, begun: false };
+      for (let at = 0, line = 1; isRead && at < text.length; line += 1) {
         const end = lineEnd(text, at), [from, to] = trimmed(text, at, end);
         if (from < to) sort(found, file, from, to, line, journal);
         at = end + 1;

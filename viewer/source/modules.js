@@ -9,7 +9,7 @@ const modules = (() => {
   };
   const AT_REST = new Set(["Idle", "Completed", "Stopped", "Aborted"]);
   const nameOf = code => docs.states[code] ?? String(code);
-  const isAtRest = code => AT_REST.has(nameOf(code));
+  const isAtRest = code => AT_REST.has(nameOf(code)), isHeld = code => ["hold", "pause"].includes(STYLES[nameOf(code)]);
   class Service {
     constructor(name, tag) {
       this.lane = new spans.Lane("service", name); this.lane.owner = tag;
@@ -98,5 +98,5 @@ const modules = (() => {
     }
     return { type: String(type), version: String(version), services: named, kinds, parameters };
   }
-  return { Module, isAtRest };
+  return { Module, isAtRest, isHeld };
 })();

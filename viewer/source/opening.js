@@ -4,14 +4,17 @@
 const opening = (() => {
   const SLICE = 5000;
   const hex = bytes => [...new Uint8Array(bytes)].map(byte => byte.toString(16).padStart(2, "0")).join("");
-  // A file's text, with its size and its checksum where the browser gives one. Of a kept file it is the lines of its
-  // events.
+  // The checksum of some bytes, where the browser gives one.
+  async function sumOf(bytes) {
+    const digest = await globalThis.crypto?.subtle?.digest("SHA-256", bytes).catch(() => null);
+    return digest ? hex(digest) : null;
+  }
+  // A file's text, with its size and its checksum. Of a kept file it is the lines of its events.
   async function textOf(file) {
-    const bytes = await file.arrayBuffer(), subtle = globalThis.crypto?.subtle;
-    const digest = subtle ? await subtle.digest("SHA-256", bytes).catch(() => null) : null;
+    const bytes = await file.arrayBuffer(), sum = await sumOf(bytes);
     const own = kept.read(file.name, bytes), plain = new TextDecoder("utf-8", { ignoreBOM: true });
     const text = own?.text ?? plain.decode(bytes);
-    return { name: file.name, size: bytes.byteLength, sum: digest && hex(digest), text, kept: own };
+    return { name: file.name, size: bytes.byteLength, sum, text, kept: own };
   }
   async function build(found, progress) {
     const history = new past.History(found);
@@ -29,6 +32,7 @@ const opening = (() => {
     const verdict = verdicts.own(found, history);
     if (verdict?.audit === "bad" && verdict.place < found.length) history.doubt(verdict);
     history.finish(found.site);
+    for (const recipe of history.recipes.values()) recipe.sum = await sumOf(new TextEncoder().encode(recipe.text));
     return history;
   }
   async function open(files, busy) {

@@ -127,6 +127,8 @@ const page = (() => {
     document.documentElement.lang = words.isGerman() ? "de" : "en";
     document.title = words.say("title");
     by("language").lang = words.isGerman() ? "en" : "de";
+    const hasSheet = state.history && paper.batchOf(state.found, state.chosen) !== null;
+    by("print").textContent = words.say(hasSheet ? "printSheet" : "print");
     by("stamp").hidden = !state.view?.rises;
     by("stamp").setAttribute("aria-pressed", String(Boolean(state.view?.byStamp)));
     by("trends").hidden = !state.history || trendLanes([...state.history.batches.values()].slice(0, 20)).length === 0;
@@ -272,7 +274,7 @@ const page = (() => {
       return;
     }
     view.set(...state.kept);
-    by("paper").replaceChildren();
+    paper.empty(by("paper"));
     again();
     move();
   }

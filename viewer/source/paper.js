@@ -31,15 +31,13 @@ const paper = (() => {
   function desk(found, history, chosen) {
     const shown = history.desk.filter(at => chosen.fits(at, history.names[at], history.tags[at]));
     if (!shown.length) return section("signDesk", tables.calm(chosen.none("signNoDesk")));
-    const { people } = history, isNamed = shown.some(at => people.has(at));
     const rows = shown.map(at => {
-      const [event, answer] = found.entry(at), who = isNamed ? [tables.name(people.get(at) ?? "–")] : [];
+      const [event, answer] = found.entry(at);
       const command = words.visible(`${words.command(event.CommandOp)}: ${event.service}, ${event.tag}`);
       const told = answer && "did" in answer ? words.say("permitted") : words.answer(answer);
-      return [words.number(at + 1), words.stamp(event.at), ...who, command, told];
+      return [words.number(at + 1), words.stamp(event.at), record.who(history, at), command, told];
     });
-    const keys = ["entry", "stamp", ...(isNamed ? ["who"] : []), "command", "answer"];
-    return section("signDesk", cut(keys, rows, "signDesk"));
+    return section("signDesk", cut(["entry", "stamp", "who", "command", "answer"], rows, "signDesk"));
   }
   function exchanges(history, chosen) {
     const shown = history.exchanges.filter(each => chosen.fits(each.begun, each.batch, each.tag));
@@ -80,22 +78,45 @@ const paper = (() => {
     return section("reviewer", cut(["entry", "what"], list.map(alarm => [words.number(alarm.at + 1),
       make("span", {}, ...tables.alarmTold(alarm))]), "reviewer"));
   }
-  function signature() {
-    const field = key => make("div", { class: "field" }, make("span", {}, words.say(key)));
-    return make("div", { class: "signature" }, field("signName"), field("signDate"), field("signed"));
-  }
   const finder = ({ finder: own }) => (own ? section("finder", ...tables.finder(own)) : null);
   // What is signed of a history; where the files have none, nothing of it is said.
   const signedOf = (found, history, chosen, verdict) => (found.length === 0 ? [] : [
     section("signVerdict", make("p", { class: `verdict ${verdict.style}` }, verdict.inWords)), batches(chosen),
     refusals(chosen), desk(found, history, chosen), exchanges(history, chosen), alarms(chosen)]);
+  // What the files say of themselves that doesn't fit together.
+  function doubts(found, history) {
+    const all = seal.faults(found, history);
+    const told = all.slice(0, MOST_ROWS).map(text => make("p", { class: "why" }, text));
+    if (all.length > told.length) told.push(make("p", {}, words.say("more", words.number(all.length - told.length))));
+    return told.length ? section("faults", ...told) : null;
+  }
   function signPage(found, history, chosen, verdict) {
     const only = chosen.isAll ? null : make("p", { class: "only" }, words.say("signOnly", chosen.told));
-    const doubts = seal.faults(found, history).slice(0, MOST_ROWS).map(text => make("p", { class: "why" }, text));
+    const more = history.batches.size ? make("p", { class: "small" }, words.say("signMore")) : null;
     return make("article", { class: "sign" }, make("h1", {}, words.say("signTitle")), only,
-      span(found, history, chosen.isAll), files(found), doubts.length ? section("faults", ...doubts) : null,
-      ...signedOf(found, history, chosen, verdict), finder(found), signature(),
-      make("p", { class: "small" }, words.say("notProved")));
+      span(found, history, chosen.isAll), files(found), doubts(found, history),
+      ...signedOf(found, history, chosen, verdict), finder(found), more, sheet.signatures(verdict), ...sheet.notes());
+  }
+  // The batch whose sheet is printed: where nothing but one batch is chosen, or the files tell of nothing else.
+  function batchOf(found, chosen) {
+    const own = chosen.batches(), isOne = own.length === 1 && chosen.never().length === 0;
+    const isAlone = chosen.batch !== "" || found.finder === null;
+    return isOne && isAlone && chosen.tag === "" && chosen.rule === "" ? own[0] : null;
+  }
+  function first(batch, found, history, chosen, verdict) {
+    if (batch === null) return signPage(found, history, chosen, verdict);
+    const own = make("div", {}, files(found), span(found, history, false));
+    return sheet.fill(batch, { found, history, chosen, verdict, files: own, doubts: doubts(found, history) });
+  }
+  // On top of each page stand what is signed and the files with the front of their checksums: an own style, since a
+  // text of CSS is the only one that each page has.
+  const quoted = text => `"${text.replace(/[^\w .:-]/gu, sign => `\\${sign.codePointAt(0).toString(16)} `)}"`;
+  function head(title, found) {
+    const named = found.files.map(({ name, sum }) => `${name.slice(0, 40)} ${sum?.slice(0, 8) ?? ""}`).join(" · ");
+    const style = new CSSStyleSheet({ media: "print" });
+    style.replaceSync(`@page { @top-left { content: ${quoted(words.visible(title))}; }
+      @top-right { content: ${quoted(words.visible(named).slice(0, 110))}; } }`);
+    document.adoptedStyleSheets = [style];
   }
   // Pictures of as many lanes as a page takes, of the whole history.
   function sheets(pane) {
@@ -119,13 +140,13 @@ const paper = (() => {
     pane.layout(lanes.isNarrow());
     return made;
   }
-  // Chart and log of a batch; more of the log where the batch alone is chosen.
-  function figure(batch, found, history, isAlone) {
-    const holder = make("div", { class: "drawn" }), { at } = batch.log, shown = at.slice(0, isAlone ? ALONE : MOST_LOG);
+  // Chart and log of a batch; more of the log where the batch alone is chosen, and none of it where it has a sheet.
+  function figure(batch, found, history, most) {
+    const holder = make("div", { class: "drawn" }), { at } = batch.log, shown = at.slice(0, most);
     const end = batch.ended ?? history.stamps.length - 1, standing = stand.place(history, batch, end, batch.known);
     if (batch.known) here.drawn(holder, batch.known, standing);
     const log = shown.map(each => make("li", { value: each + 1 }, history.answerTo(each, ...found.entry(each))));
-    const left = at.length - log.length, more = left ? words.say("signMoreLog", words.number(left)) : "";
+    const left = most ? at.length - log.length : 0, more = left ? words.say("signMoreLog", words.number(left)) : "";
     const list = make("ol", { class: "log" }, ...log), rest = make("p", { class: "small" }, more);
     return make("figure", {}, make("figcaption", {}, `${batch.name}: ${here.under(batch, standing)}`), holder,
       make("div", {}, list, rest, ...waits(batch, history)));
@@ -137,9 +158,9 @@ const paper = (() => {
     });
     return told.length ? [make("h3", {}, words.say("waits")), make("ul", {}, ...told)] : [];
   }
-  function figures(found, history, chosen) {
-    const own = chosen.batches(), shown = own.slice(0, MOST_BATCHES);
-    const made = shown.map(batch => figure(batch, found, history, own.length === 1));
+  function figures(found, history, chosen, hasSheet) {
+    const own = chosen.batches(), shown = own.slice(0, MOST_BATCHES), most = own.length === 1 ? ALONE : MOST_LOG;
+    const made = shown.map(batch => figure(batch, found, history, hasSheet ? 0 : most));
     if (own.length > shown.length) {
       made.push(make("p", { class: "calm" }, words.say("signMoreBatches", words.number(own.length - shown.length))));
     }
@@ -151,9 +172,15 @@ const paper = (() => {
       const made = sheets(pane);
       return made.length ? [make("h2", {}, words.say(pane.name)), ...made] : [];
     });
-    const more = [pictures, figures(found, history, chosen)].filter(each => each.length);
-    const articles = more.map(each => make("article", {}, ...each));
-    holder.replaceChildren(signPage(found, history, chosen, verdict), ...articles);
+    const batch = batchOf(found, chosen), own = figures(found, history, chosen, batch !== null);
+    const more = batch ? [[...own, ...pictures]] : [pictures, own];
+    const articles = more.filter(each => each.length).map(each => make("article", {}, ...each));
+    holder.replaceChildren(first(batch, found, history, chosen, verdict), ...articles);
+    head(words.say(...(batch ? ["sheetTitle", batch.name] : ["signTitle"])), found);
   }
-  return { fill };
+  function empty(holder) {
+    holder.replaceChildren();
+    document.adoptedStyleSheets = [];
+  }
+  return { batchOf, fill, empty };
 })();

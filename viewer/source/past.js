@@ -21,6 +21,8 @@ const past = (() => {
   }
   // What became of an operator's command, by what its answer has.
   const DESK = { did: "deskPermitted", denied: "deskDenied", rule: "deskRefused", bad: "deskBad" };
+  // What is to be looked at because of somebody's line, which may say whose. That of the desk says it by itself.
+  const GIVEN = new Set(["frozen", "frozenHolding", "stopAsked", "closedBatch", "exchangedIn", "exchangedWatched"]);
   // What an event must have to be drawn; a forged one may lack it.
   const FIELDS = {
     plug: { tag: "string", desc: "object" }, unplug: { tag: "string" }, variable: { tag: "string", name: "string" },
@@ -56,7 +58,10 @@ const past = (() => {
       if (!this.known.has(text)) this.known.set(text, text);
       return this.known.get(text);
     }
-    alarm(at, style, subject, key, ...values) { this.alarms.push({ at, style, subject, key, values }); }
+    alarm(at, style, subject, key, ...values) {
+      const by = GIVEN.has(key) ? this.people.get(at) ?? null : null;
+      this.alarms.push({ at, style, subject, key, values, by });
+    }
     take(at, event, answer) {
       const kind = answer ? KINDS.find(key => key in answer) ?? "none" : "none";
       this.counts.lines += 1; this.counts[kind] += 1;
@@ -118,6 +123,19 @@ const past = (() => {
       if (modules.isAtRest(did.state)) return;
       const { service, tag, state } = batch.left[batch.left.length - 1];
       this.alarm(at, "left", { batch: batch.name, tag }, "leftAlarm", service, tag, words.state(state));
+    }
+    // A freeze with holds has asked all that it can once an advance is answered Frozen; what runs on is to be seen.
+    reached(at, batch) {
+      if (!batch.holds || batch.unheld !== null) return;
+      const isRunning = ({ service, tag }) => {
+        const { code } = this.modules.get(tag)?.services.get(service) ?? { code: null };
+        return code !== null && !modules.isAtRest(code) && !modules.isHeld(code);
+      };
+      batch.unheld = batch.running(at).filter(isRunning);
+      for (const { service, tag } of batch.unheld) {
+        const { code } = this.modules.get(tag).services.get(service);
+        this.alarm(at, "left", { batch: batch.name, tag }, "notHeld", service, tag, words.state(code));
+      }
     }
     free(at, batch) {
       for (const tag of batch.tags) this.modules.get(tag)?.held(at, null);
@@ -209,7 +227,7 @@ const past = (() => {
       module?.value(at, event.name, event.value);
       all.hear(module);
     },
-    recipe: (all, at, event) => { all.recipes.set(event.recipe, new recipes.Recipe(event)); },
+    recipe: (all, at, event) => { all.recipes.set(event.recipe, new recipes.Recipe(at, event)); },
     start(all, at, event) {
       if (!isNames(event.bind) || !isNames(event.watch ?? {})) throw new TypeError("a start without its modules");
       const lane = all.attempts.get(event.batch)?.lane ?? new spans.Lane("batch", event.batch);
@@ -225,10 +243,14 @@ const past = (() => {
       const batch = all.batches.get(event.batch);
       if (!batch) return;
       batch.ask(at);
-      if ("wait" in answer) batch.wait(at, answer);
+      if ("wait" in answer) {
+        batch.wait(at, answer);
+        if (answer.wait === "Frozen") all.reached(at, batch);
+      }
       else if ("closed" in answer) all.shut(at, batch, answer.closed);
       else if ("did" in answer) {
         const { did } = answer;
+        if (!isOf(did, "object")) throw new TypeError("an entry of the log without its fields");
         batch.did(at, did);
         if (did.do === "broke") {
           all.alarm(at, "abort", { batch: batch.name }, "brokenBatch", batch.name, did.step, words.state(did.state));

@@ -36,9 +36,19 @@ const recipes = (() => {
     }
     return [...reads.values()];
   }
+  // A text that is one for one recipe, as `pol` writes it: compact, with the keys in order, and with the settings of
+  // each step, none where the line has none.
+  function written(value) {
+    if (typeof value === "bigint") return String(value);
+    if (Array.isArray(value)) return `[${value.map(written).join(",")}]`;
+    if (typeof value !== "object" || value === null) return JSON.stringify(value);
+    const own = "step" in value && !("settings" in value) ? { ...value, settings: [] } : value;
+    return `{${Object.keys(own).sort().map(key => `${JSON.stringify(key)}:${written(own[key])}`).join(",")}}`;
+  }
   class Recipe {
-    constructor(event) {
-      this.name = event.recipe; this.roles = event.roles; this.chart = event.chart;
+    constructor(at, event) {
+      this.at = at; this.name = event.recipe; this.roles = event.roles; this.chart = event.chart;
+      this.text = written({ chart: this.chart, recipe: this.name, roles: this.roles }); this.sum = null;
       this.nodes = [...nodes(event.chart)];
       this.steps = new Map(this.nodes.filter(node => "step" in node).map(node => [node.step, node]));
       this.numbers = new Map(this.nodes.map((node, number) => [node, number]));

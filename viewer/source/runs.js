@@ -42,7 +42,7 @@ const runs = (() => {
     constructor(at, event, known, lane) {
       Object.assign(this, { name: event.batch, recipe: event.recipe, bind: event.bind, watch: event.watch ?? {} });
       Object.assign(this, { known, lane, started: at, ended: null, outcome: null, frozen: false, slots: [], reasons: [],
-        before: [], left: [],
+        before: [], left: [], freezes: [], unheld: null,
         points: [new Standing()] });
       // When it was asked last, how many reports of its modules came since, and when something else changed for it.
       Object.assign(this, { asked: null, heard: 0, changed: at });
@@ -76,9 +76,14 @@ const runs = (() => {
     goOn(at) { if (!this.frozen) this.waits.close(at); }
     freeze(at, holds) {
       this.frozen = true; this.holds = holds; this.changed = at;
+      this.freezes.push({ from: at, to: null, holds });
+      this.unheld = null;
       this.wait(at, { wait: "Frozen" });
     }
-    thaw(at) { this.frozen = false; this.changed = at; this.waits.close(at); }
+    thaw(at) {
+      if (this.frozen) this.freezes[this.freezes.length - 1].to = at;
+      this.frozen = false; this.changed = at; this.waits.close(at);
+    }
     // An entry of the log: kept, and shown in the slot of its step.
     did(at, did) {
       this.goOn(at);
@@ -89,11 +94,20 @@ const runs = (() => {
       if (deed === "left") this.leave(did);
       this.lane.note(at, Object.hasOwn(MARKS, deed) ? MARKS[deed] : "log");
     }
-    // A step was left with its service running: kept with that service, which its start has told.
+    // A step was left with its service running: kept with that service.
     leave({ step, state }) {
-      const start = this.log.did.findLast(each => each.do === "start" && each.step === step);
-      this.left.push({ step, service: start?.service ?? step, tag: start?.tag ?? "?", state });
+      this.left.push({ ...this.serviceOf(step), state });
       this.lane.left = this.left;
+    }
+    // The service of a step, as its last start has told it.
+    serviceOf(step) {
+      const start = this.log.did.findLast(each => each.do === "start" && each.step === step);
+      return { step, service: start?.service ?? step, tag: start?.tag ?? "?" };
+    }
+    // The steps that were started and neither asked to hold nor brought to their end, with their services.
+    running(at) {
+      const steps = [...this.standing(at).steps].filter(([, { phase }]) => phase === "on");
+      return steps.map(([step]) => this.serviceOf(step));
     }
     begin(at, step) {
       let free = this.slots.find(track => !track.isOpen());
@@ -111,6 +125,7 @@ const runs = (() => {
       else if (did.do === "unhold") slot.open(at, "run", slot.owner);
     }
     close(at, outcome) {
+      if (this.frozen) this.freezes[this.freezes.length - 1].to = at;
       this.outcome = outcome; this.ended = at; this.frozen = false;
       for (const track of [this.whole, this.waits, ...this.slots]) track.close(at);
       this.lane.outcome = outcome;
@@ -148,5 +163,5 @@ const runs = (() => {
       return [...found.values()];
     }
   }
-  return { Batch, ENDS };
+  return { Batch, ENDS, deedOf };
 })();

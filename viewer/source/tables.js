@@ -66,8 +66,9 @@ const tables = (() => {
       make("td", { class: "where" }, jump(alarm.at, () => go(alarm))),
       make("td", {}, ...alarmTold(alarm)));
   }
-  const alarmTold = ({ style, key, values }) => [chip(style),
-    make(style === "left" ? "b" : "span", { class: style === "left" ? "left" : null }, words.say(key, ...values))];
+  const alarmTold = ({ style, key, values, by }) => [chip(style),
+    make(style === "left" ? "b" : "span", { class: style === "left" ? "left" : null },
+      words.say(key, ...values) + (by === null ? "" : words.say("byWhom", by)))];
   // What a reviewer has to look at, around the one that is looked at.
   function alarms(holder, list, go, here, none) {
     if (!list.length) { holder.replaceChildren(calm(none)); return; }

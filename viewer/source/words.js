@@ -78,8 +78,8 @@ const words = (() => {
       told.mode = told.Mode === "Automatic" && told.Src === "External" ? "" : `, ${told.Mode}, ${told.Src}`;
     }
     if (told.ev === "variable") told.value = value(told.value, kindOf(told.tag, told.name));
-    if (told.ev === "freeze" && told.hold === true) return form("freezeHolding", told);
-    return form(EVENTS[told.ev] ?? told.ev, told);
+    const key = told.ev === "freeze" && told.hold === true ? "freezeHolding" : EVENTS[told.ev] ?? told.ev;
+    return form(key, told) + (told.ev !== "desk" && typeof told.by === "string" ? say("byWhom", told.by) : "");
   }
   const plainly = (_, told) => (typeof told === "bigint" ? String(told) : told);
   const named = (start, key) => start + String(key).split("_").map(part => part.charAt(0).toUpperCase() + part.slice(1))

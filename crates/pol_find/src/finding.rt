@@ -60,7 +60,7 @@ impl Answering<JournalLines> for Finding {
     ghost Answers = { λ before now held holds line.
         (holds ≡ held) × (known_by now ≡ find_work.after (known_by before) line) };
 
-    ghost Halts = { λ _ _ _. ⊤ };
+    ghost Halts = { λ _ _ _ _. ⊤ };
 
     #[inline(always)]
     #[tactic(auto, using(crate::proofs::Replayed::after_event))]

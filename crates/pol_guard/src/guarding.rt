@@ -4,20 +4,18 @@ ghost use Rattle.pol_jobs.specs.Faults.{RefusedFor};
 ghost use Rattle.pol_jobs.specs.InputLines.{plain_line};
 ghost use Rattle.pol_jobs.specs.LineWork.{Accepts};
 ghost use Rattle.pol_policy.specs.PlainPolicy.{plain_policy};
-ghost use Rattle.pol_replay.specs.Meanings.{is_some_line};
 ghost use Rattle.pol_guard.specs.Guarded.{policy_said};
 ghost use Rattle.pol_guard.specs.Guards.{known_by};
 ghost use Rattle.pol_guard.specs.Work.{guard_work, waiting};
 
 use crate::replying::GuardedPlant;
-use event_json::is_blank;
 use mtp_json::{FaultKind, JsonFault, JsonRefusal, Path};
 use pol_core::Plant;
 use pol_io::Sink;
 use pol_jobs::{InputLine, LineJob, PutFault, Stop};
 use pol_lines::GuardedLines;
 use pol_policy::{Policy, read_policy};
-use pol_replay::{answer_line, close};
+use pol_replay::{answer_line, close, is_some_line};
 use std::alloc::Global;
 use std::convert::Infallible;
 
@@ -30,18 +28,8 @@ pub enum Guard {
     Begun(GuardedPlant),
 }
 
-// Whether a line isn't blank.
-fn is_some_line(line: InputLine<'_>) -> bool
-    ensures { result ≡ is_some_line (plain_line line.entry) }
-{
-    match line {
-        InputLine::Text(text) => !is_blank(text),
-        InputLine::TooLong => true,
-    }
-}
-
-// A fault of the whole policy.
-fn whole(alloc: Global, kind: FaultKind) -> JsonFault
+/// A fault of a whole policy.
+pub fn whole(alloc: Global, kind: FaultKind) -> JsonFault
     ensures { result ≡ record { kind = kind; path = [] } }
 {
     JsonFault {

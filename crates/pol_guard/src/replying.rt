@@ -6,6 +6,7 @@ ghost use Rattle.pol_guard.specs.Lines.{verdict_on};
 
 use crate::denials::put_denial_line;
 use event_json::{Guarded, LineFault};
+use mtp_codes::Name;
 use pol_core::Plant;
 use pol_events::Event;
 use pol_jobs::InputLine;
@@ -15,20 +16,21 @@ use pol_record::put_fault_line;
 use pol_replay::{Answering, answer_event};
 use std::alloc::{AllocError, Global};
 
-// The verdict of a policy on an event; None where it asks nothing of a policy.
-fn verdict_on(policy: &Policy, said: &Guarded) -> Option<Verdict>
-    ensures { result ≡ verdict_on (plain_policy policy.now) (plain_event said.now.event) said.now.by }
+/// The verdict of a policy on an event that this person gives, or nobody who is named; None where it asks nothing of a
+/// policy.
+pub fn verdict_on(policy: &Policy, event: &Event, by: Option<Name>) -> Option<Verdict>
+    ensures { result ≡ verdict_on (plain_policy policy.now) (plain_event event.now) by }
 {
     let Event::Desk {
         tag,
         service,
         command,
         ..
-    } = &said.event
+    } = event
     else {
         return None;
     };
-    match said.by {
+    match by {
         Some(by) => Some(policy.judge(by, *tag, *service, *command)),
         None => Some(Verdict::Denied(None)),
     }
@@ -58,12 +60,12 @@ impl Answering<GuardedLines> for GuardedPlant {
         (holds ≡ held ++ guard_work.reply (known_behind before) line)
         × (known_behind now ≡ guard_work.after (known_behind before) line) };
 
-    ghost Halts = { λ _ _ _. ⊤ };
+    ghost Halts = { λ _ _ _ _. ⊤ };
 
     #[inline(always)]
     #[tactic(auto, using(crate::proofs::Meant::to_saying))]
     fn said(&mut self, _line: &[u8], said: Guarded, out: &mut Vec<u8>) -> Result<(), AllocError> {
-        match verdict_on(&self.policy, &said) {
+        match verdict_on(&self.policy, &said.event, said.by) {
             Some(Verdict::Denied(rule)) => put_denial_line(self.alloc, out, rule),
             Some(Verdict::Allowed(_)) | None => {
                 answer_event(self.alloc, &mut self.plant, said.event, out)

@@ -40,7 +40,7 @@ impl<D: Disk> Answering<JournalLines> for Keeping<D> {
         × (plant_history now.store.plant ≡ replay_work.after (plant_history before.store.plant) line)
         × Admits before.store now.store (replay_work.after (plant_history before.store.plant) line) true };
 
-    ghost Halts = { λ before now stop.
+    ghost Halts = { λ before now line stop.
         ((after : History) → Admits before.store now.store after false) × FailedSo (now.store.closed ≡ true) stop };
 
     #[inline(always)]

@@ -49,7 +49,7 @@ impl Answering<LinesOfVersion1> for Migrating {
 
     ghost Answers = { λ before now held holds line. holds ≡ held ++ migrated_met line };
 
-    ghost Halts = { λ _ _ _. ⊤ };
+    ghost Halts = { λ _ _ _ _. ⊤ };
 
     #[inline(always)]
     #[tactic(auto, using(crate::proofs::Meant::event_becomes))]

@@ -22,14 +22,14 @@ pub trait Answering<F: LineForm> {
     ghost Answers: { Self → Self → List ℕ → List ℕ → Line → Type 0 };
 
     /// What is so where a line stays unanswered for this reason, of who answers before and after.
-    ghost Halts: { Self → Self → Self.Halt → Type 0 };
+    ghost Halts: { Self → Self → Line → Self.Halt → Type 0 };
 
     /// Answers a line that says this.
     fn said(&mut self, line: &[u8], said: F::Said, out: &mut Vec<u8>) -> Result<(), Self::Halt>
         requires says { meaning_met F.said_of (Some line.now) ≡ says (F.plain said) }
         requires orderly { IsTrue (is_orderly (F.event (F.plain said))) }
         ensures answers { OnOk result (Answers self.old self.new out.old.items out.new.items (Some line.now)) }
-        ensures halts { IfErr result (Halts self.old self.new) };
+        ensures halts { IfErr result (Halts self.old self.new (Some line.now)) };
 
     /// Answers a line that is at fault.
     fn fault(
@@ -40,15 +40,25 @@ pub trait Answering<F: LineForm> {
     ) -> Result<(), Self::Halt>
         requires { meaning_met F.said_of (plain_line line) ≡ at_fault fault }
         ensures answers { OnOk result (Answers self.old self.new out.old.items out.new.items (plain_line line.entry)) }
-        ensures halts { IfErr result (Halts self.old self.new) };
+        ensures halts { IfErr result (Halts self.old self.new (plain_line line.entry)) };
 
-    /// Why a line stays unanswered where there is no memory to read it.
+    /// Why a line, whichever it is, stays unanswered where there is no memory to read it.
     fn no_memory(&self) -> Self::Halt
-        ensures { Halts self.now self.now result };
+        ensures { (line : Line) → Halts self.now self.now line result };
 
     /// A blank line is answered with nothing.
     ghost answers_blank: { (answering : Self) (held line : List ℕ) → list_all is_blank_byte line ≡ true
         → Answers answering answering held held (Some line) };
+}
+
+/// Whether a line isn't blank.
+pub fn is_some_line(line: InputLine<'_>) -> bool
+    ensures { result ≡ is_some_line (plain_line line.entry) }
+{
+    match line {
+        InputLine::Text(text) => !is_blank(text),
+        InputLine::TooLong => true,
+    }
 }
 
 // Whether a line says first of all that it is a start. No start is read quickly, for its binds. Three bytes tell it from
@@ -71,7 +81,7 @@ fn answer_slowly<F: LineForm, A: Answering<F>>(
 ) -> Result<(), A::Halt>
     requires { IsTrue (is_some_line (Some line.now)) }
     ensures answers { OnOk result (A.Answers answering.old answering.new out.old.items out.new.items (Some line.now)) }
-    ensures halts { IfErr result (A.Halts answering.old answering.new) }
+    ensures halts { IfErr result (A.Halts answering.old answering.new (Some line.now)) }
 {
     match F::read_slowly(alloc, line) {
         Ok(said) => answering.said(line, said, out),
@@ -91,7 +101,7 @@ fn answer_other<F: LineForm, A: Answering<F>>(
 ) -> Result<(), A::Halt>
     requires { IsTrue (is_some_line (Some line.now)) }
     ensures answers { OnOk result (A.Answers answering.old answering.new out.old.items out.new.items (Some line.now)) }
-    ensures halts { IfErr result (A.Halts answering.old answering.new) }
+    ensures halts { IfErr result (A.Halts answering.old answering.new (Some line.now)) }
 {
     match F::fault_quickly(alloc, line) {
         Some(fault) => answering.fault(InputLine::Text(line), fault, out),
@@ -110,7 +120,7 @@ fn answer_some<F: LineForm, A: Answering<F>>(
 ) -> Result<(), A::Halt>
     requires { IsTrue (is_some_line (Some line.now)) }
     ensures answers { OnOk result (A.Answers answering.old answering.new out.old.items out.new.items (Some line.now)) }
-    ensures halts { IfErr result (A.Halts answering.old answering.new) }
+    ensures halts { IfErr result (A.Halts answering.old answering.new (Some line.now)) }
 {
     if is_start(line) {
         return answer_slowly::<F, A>(alloc, line, answering, out);
@@ -132,7 +142,7 @@ pub fn answer_line<F: LineForm, A: Answering<F>>(
 ) -> Result<(), A::Halt>
     ensures answers { OnOk result (A.Answers answering.old answering.new out.old.items out.new.items
         (plain_line line.entry)) }
-    ensures halts { IfErr result (A.Halts answering.old answering.new) }
+    ensures halts { IfErr result (A.Halts answering.old answering.new (plain_line line.entry)) }
 {
     let InputLine::Text(text) = line else {
         return answering.fault(line, LineFault::TooLong, out);

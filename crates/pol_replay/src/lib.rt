@@ -11,6 +11,6 @@ mod answering;
 mod closing;
 mod replay;
 
-pub use answering::{Answering, answer_line};
-pub use closing::close;
+pub use answering::{Answering, answer_line, is_some_line};
+pub use closing::{close, close_with};
 pub use replay::{Replay, answer_event};

@@ -71,7 +71,7 @@ impl Answering<JournalLines> for Replay {
         (holds ≡ held ++ replay_work.reply (plant_history before.plant) line)
         × (plant_history now.plant ≡ replay_work.after (plant_history before.plant) line) };
 
-    ghost Halts = { λ _ _ _. ⊤ };
+    ghost Halts = { λ _ _ _ _. ⊤ };
 
     #[inline(always)]
     #[tactic(auto, using(crate::proofs::Replied::to_event))]

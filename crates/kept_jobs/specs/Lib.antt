@@ -1,0 +1,5 @@
+pub mod Telling
+pub mod Keeping
+pub mod Going
+pub mod Leaving
+pub mod Life
