@@ -101,12 +101,17 @@ fn policy_of(alloc: Global, line: &str) -> Result<PlantPolicy, Fail> {
     Ok(policy)
 }
 
+// What the policy of a line says to a line of this kind.
+fn said(alloc: Global, line: &str, by: &str, kind: EventKind) -> Result<String, Fail> {
+    let by = giver(by)?;
+    let policy = policy_of(alloc, line)?;
+    said_text(alloc, &policy.judge_line(by, kind))
+}
+
 #[test]
 fn a_line_is_allowed_or_denied_by_a_rule(rt: HostRuntime) -> Result<(), Fail> {
     for (line, by, kind, want) in CASES {
-        let policy = policy_of(rt.alloc(), line)?;
-        let said = policy.judge_line(giver(by)?, kind);
-        let told = said_text(rt.alloc(), &said)?;
+        let told = said(rt.alloc(), line, by, kind)?;
         assert_eq!(rt; told.as_str(), want, "to {kind:?} by {by}");
     }
     Ok(())
