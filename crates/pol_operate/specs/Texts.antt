@@ -1,0 +1,74 @@
+-- The lines of a plant that is operated which no journal has.
+use Rattle.std.specs.Prelude.{ℕ, List, [], ◌∷◌, map, length, true, codes, Option, Some, None}
+use Rattle.std.specs.Option.{unwrap_or}
+use Rattle.hex.specs.Hex.{encode_lower}
+use Rattle.serde_json.specs.Data.{Data, boolean, number, unsigned, string, object, member, no_members}
+use Rattle.mtp_codes.specs.declared.value.Setting.{Setting}
+use Rattle.chart_core.specs.declared.entry.LogEntry.TheVariants.{Start}
+use Rattle.chart_json.specs.Written.{written_settings}
+use Rattle.pol_core.specs.Calls.{settings_of}
+use Rattle.pol_events.specs.Events.{PlainEvent, advance}
+use Rattle.pol_events.specs.declared.answer.Answer.{Answer}
+use Rattle.pol_events.specs.declared.answer.Answer.TheVariants.{Did}
+use Rattle.pol_history.specs.Looking.{History}
+use Rattle.pol_record.specs.Texts.{answer_data, entry_data, line_text}
+use Rattle.pol_ledger.specs.Items.{PlainAsked, sum_of}
+use Rattle.pol_ledger.specs.Work.{BegunLedger, history_of, items_of}
+
+-- ---- an answer that starts a step tells its settings
+
+-- the batch that an event has go on, if it is an advance
+abbrev pub advanced_by : PlainEvent → Option (List ℕ)
+advanced_by (advance at batch) = Some batch
+advanced_by event = None
+
+-- the settings that an answer is told with: where a batch went on and started a step, those of that step
+abbrev pub settings_told : History → Option (List ℕ) → Answer → List Setting
+settings_told history (Some batch) (Did (Start step tag service procedure)) =
+    unwrap_or (settings_of history batch step) []
+settings_told history batch answer = []
+
+-- what was done, and the settings with which it was
+unfoldable pub did_object : Data → Data → Data
+did_object entry settings = object (member (codes "did") entry (member (codes "settings") settings no_members))
+
+-- an answer with these settings; as ever where there are none
+abbrev pub told_data : List Setting → Answer → Data
+told_data (first ∷ others) (Did entry) = did_object (entry_data entry) (written_settings (first ∷ others))
+told_data settings answer = answer_data answer
+
+-- its line
+abbrev pub told_text : List Setting → Answer → List ℕ
+told_text settings answer = line_text (told_data settings answer)
+
+-- ---- the file is open, and the end
+
+-- what was asked for so far
+abbrev pub so_far_in : Option BegunLedger → List PlainAsked
+so_far_in None = []
+so_far_in (Some ledger) = ledger.so_far
+
+-- the history of the plant
+abbrev pub history_in : Option BegunLedger → History
+history_in ledger = history_of (so_far_in ledger)
+
+-- the sum of the last record, in hex
+abbrev pub sum_text : Option BegunLedger → List ℕ
+sum_text ledger = encode_lower (sum_of (items_of ledger))
+
+-- so many events are kept, and the last record has this sum
+unfoldable pub kept_object : ℕ → List ℕ → Data
+kept_object count sum =
+    object (member (codes "kept") (number (unsigned count)) (member (codes "sum") (string sum) no_members))
+
+-- the line that answers the policy
+abbrev pub kept_text : Option BegunLedger → List ℕ
+kept_text ledger = line_text (kept_object (length (so_far_in ledger)) (sum_text ledger))
+
+-- the end, where the last record has this sum
+unfoldable pub end_object : List ℕ → Data
+end_object sum = object (member (codes "end") (boolean true) (member (codes "sum") (string sum) no_members))
+
+-- the last line
+abbrev pub sealed_text : Option BegunLedger → List ℕ
+sealed_text ledger = line_text (end_object (sum_text ledger))
