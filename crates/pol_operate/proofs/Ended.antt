@@ -1,5 +1,5 @@
 -- How the job on an operated plant ended.
-use Rattle.std.proofs.Common.{ℕ, ◌≡◌, ◌≢◌, inr, List, Option, refl, subst, sym, ◌∙◌}
+use Rattle.std.proofs.Common.{ℕ, ◌≡◌, ◌≢◌, inr, List, Option, refl, subst, sym}
 use Rattle.std.specs.Prelude.{IfErr, OnOk, Result, Ok, Err}
 use Rattle.mtp_json.specs.declared.fault.JsonFault.{JsonFault}
 use Rattle.pol_io.specs.Edge.{Edge}

@@ -1,5 +1,5 @@
 -- What ends an output isn't empty.
-use Rattle.std.proofs.Common.{◌<◌, ◌++◌, ℕ, List, ◌∷◌, [], length, arith, length-append, Option}
+use Rattle.std.proofs.Common.{◌<◌, ℕ, List, length, arith, length-append, Option}
 use Rattle.pol_jobs.specs.Written.{WritesPart}
 use Rattle.pol_jobs.proofs.Written.{none_written}
 use Rattle.pol_record.specs.Texts.{batches_text}
@@ -10,7 +10,8 @@ use Rattle.pol_operate.proofs.Tokens.{some_line}
 
 -- where nothing of it was written, it wasn't written whole
 pub nothing_closed : (held : Option (List ℕ)) (ledger : Option BegunLedger) → WritesPart held held (ending_text ledger)
-nothing_closed held ledger = none_written held (ending_text ledger) (rw (length-append lines last) (omega (arith, long)))
+nothing_closed held ledger =
+    none_written held (ending_text ledger) (rw (length-append lines last) (omega (arith, long)))
   where
     lines : List ℕ
     lines = batches_text (history_in ledger)

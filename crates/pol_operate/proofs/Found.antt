@@ -1,8 +1,8 @@
 -- What a disk was opened as, by what it read as.
-use Rattle.std.proofs.Common.{ℕ, ◌≡◌, ◌∙◌, ◌⊎◌, inl, inr, List, [], ◌∷◌, map, Option, Some, None, ap, refl, sym, subst}
+use Rattle.std.proofs.Common.{ℕ, ◌≡◌, ◌∙◌, inl, inr, List, [], ◌∷◌, map, Option, Some, None, ap, refl, sym, subst}
 use Rattle.std.specs.Prelude.{IfSome}
 use Rattle.kept_jobs.specs.Leaving.{ReadsAs}
-use Rattle.kept_jobs.specs.Telling.{Telling, Tells}
+use Rattle.kept_jobs.specs.Telling.{Telling}
 use Rattle.kept_jobs.proofs.Ended.{IsBegun, left_old, reads_one}
 use Rattle.pol_disk.specs.Disks.{LeavesOnly, ToldOn, told_through}
 use Rattle.pol_disk.proofs.Moments.{wider}
@@ -67,36 +67,36 @@ was_found (Some all) mid (Some new) opened image on stood read =
     }
 
 module _ {D : Type 0} (disk : Telling D) (first : D) (old : List PlainItem) (reads : ReadsAs ledger_work disk first old)
-    where
-  -- items that the bytes stand for are those that the disk reads as
-  old_of : (found : Option BegunLedger) → StandsFor ledger_work (items_of found) reads.bytes → ledger_of old ≡ found
-  old_of found stood =
-      ap ledger_of (sym (reads_one ledger_work disk ledgers_are_lawful first old (items_of found) reads stood))
-      ∙ ledger_again found
+  where
+    -- items that the bytes stand for are those that the disk reads as
+    old_of : (found : Option BegunLedger) → StandsFor ledger_work (items_of found) reads.bytes → ledger_of old ≡ found
+    old_of found stood =
+        ap ledger_of (sym (reads_one ledger_work disk ledgers_are_lawful first old (items_of found) reads stood))
+        ∙ ledger_again found
 
-  -- so the job begins with what opening makes of their ledger
-  pub opened_of : (opened : Option BegunLedger) → OpensAs reads.bytes opened →
-      opened ≡ begun_anyway (ledger_of old)
-  opened_of opened one = one.is ∙ ap begun_anyway (sym (old_of one.found one.stood))
+    -- so the job begins with what opening makes of their ledger
+    pub opened_of : (opened : Option BegunLedger) → OpensAs reads.bytes opened →
+        opened ≡ begun_anyway (ledger_of old)
+    opened_of opened one = one.is ∙ ap begun_anyway (sym (old_of one.found one.stood))
 
-  -- what is left of the disk is of before a line is met
-  begun_left : (image : List ℕ) → MayBeLeft reads.bytes (disk.images first) image →
-      IsBegun ledger_work disk operate_job first old image
-  begun_left image (inl left) = inl (left_old ledger_work disk ledgers_are_lawful first old reads image left)
-  begun_left image (inr one) = by_found one.stands
-    where
-      by_found : StandsOrBegins one.found image → IsBegun ledger_work disk operate_job first old image
-      by_found (inl stands) =
-          inl (inr (subst (λ (some : List PlainItem). StandsFor ledger_work some image)
-          (reads_one ledger_work disk ledgers_are_lawful first old (items_of one.found) reads one.stood) stands))
-      by_found (inr begins) =
-          inr (subst (λ (found : Option BegunLedger). StandsFor ledger_work (items_of (begun_anyway found)) image)
-          (sym (old_of one.found one.stood)) begins)
+    -- what is left of the disk is of before a line is met
+    begun_left : (image : List ℕ) → MayBeLeft reads.bytes (disk.images first) image →
+        IsBegun ledger_work disk operate_job first old image
+    begun_left image (inl left) = inl (left_old ledger_work disk ledgers_are_lawful first old reads image left)
+    begun_left image (inr one) = by_found one.stands
+      where
+        by_found : StandsOrBegins one.found image → IsBegun ledger_work disk operate_job first old image
+        by_found (inl stands) =
+            inl (inr (subst (λ (some : List PlainItem). StandsFor ledger_work some image)
+            (reads_one ledger_work disk ledgers_are_lawful first old (items_of one.found) reads one.stood) stands))
+        by_found (inr begins) =
+            inr (subst (λ (found : Option BegunLedger). StandsFor ledger_work (items_of (begun_anyway found)) image)
+            (sym (old_of one.found one.stood)) begins)
 
-  -- from the clauses `left` and `left_err` of `open`
-  pub left_begun : (mid : D) →
-      LeavesOnly disk.moment disk.left_since first mid (MayBeLeft reads.bytes (disk.images first)) →
-      LeavesOnly disk.moment disk.left_since first mid (IsBegun ledger_work disk operate_job first old)
-  left_begun mid left =
-      wider disk.moment disk.left_since first mid (MayBeLeft reads.bytes (disk.images first))
-      (IsBegun ledger_work disk operate_job first old) left begun_left
+    -- from the clauses `left` and `left_err` of `open`
+    pub left_begun : (mid : D) →
+        LeavesOnly disk.moment disk.left_since first mid (MayBeLeft reads.bytes (disk.images first)) →
+        LeavesOnly disk.moment disk.left_since first mid (IsBegun ledger_work disk operate_job first old)
+    left_begun mid left =
+        wider disk.moment disk.left_since first mid (MayBeLeft reads.bytes (disk.images first))
+        (IsBegun ledger_work disk operate_job first old) left begun_left

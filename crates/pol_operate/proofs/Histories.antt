@@ -1,5 +1,6 @@
 -- The history of a ledger's plant, by what contracts see of the ledger.
-use Rattle.std.proofs.Common.{◌≡◌, ℕ, List, [], ◌∷◌, length, Bool, true, false, Option, Some, None, refl, sym, ◌∙◌, ap, arith, map}
+use Rattle.std.proofs.Common.{◌≡◌, ◌∙◌, ℕ, List, [], ◌∷◌, length, map, true, false, Option, Some, None, refl, sym, ap}
+use Rattle.std.proofs.Common.{arith}
 use Rattle.std.proofs.lemmas.List.{length-reverse, length-map}
 use Rattle.std.specs.Prelude.{is_some}
 use Rattle.pol_core.specs.Plants.{plant_history}
@@ -43,28 +44,28 @@ so_far_none None so_far is = refl
 so_far_none (Some build) so_far is = cc
 
 -- once it was begun, its history is that of its plant
-pub history_begun : (ledger : PlainLedger) → plant_history ledger.plant ≡ history_of (asked_so_far ledger) →
+history_begun : (ledger : PlainLedger) → plant_history ledger.plant ≡ history_of (asked_so_far ledger) →
     is_some (ledger_state ledger) ≡ true → plant_history ledger.plant ≡ history_in (ledger_state ledger)
 history_begun ledger runs is = runs ∙ ap history_of (sym (so_far_begun ledger.build (asked_so_far ledger) is))
 
 -- and an entry stands for each event that was asked for
-pub many_begun : (ledger : PlainLedger) → length ledger.names ≡ length ledger.plant.entries →
-    is_some (ledger_state ledger) ≡ true → length ledger.plant.entries ≡ length (so_far_in (ledger_state ledger))
-many_begun ledger many is =
+pub entries_begun : (ledger : PlainLedger) → plant_history ledger.plant ≡ history_of (asked_so_far ledger) →
+    length ledger.names ≡ length ledger.plant.entries → is_some (ledger_state ledger) ≡ true →
+    (plant_history ledger.plant ≡ history_in (ledger_state ledger))
+    × (length ledger.plant.entries ≡ length (so_far_in (ledger_state ledger)))
+entries_begun ledger runs many is =
     let events = events_of (plant_history ledger.plant) in
-    let long : length events ≡ length ledger.plant.entries = length-history ledger.plant.entries in
-    sym (ap length (so_far_begun ledger.build (asked_so_far ledger) is)
-    ∙ length-asked ledger.names events (many ∙ sym long) ∙ long)
+    let long : length events ≡ length ledger.plant.entries = length-history ledger.plant.entries in (
+      history_begun ledger runs is,
+      sym (ap length (so_far_begun ledger.build (asked_so_far ledger) is)
+          ∙ length-asked ledger.names events (many ∙ sym long) ∙ long),
+    )
 
--- before, its history is empty
-pub history_none : (ledger : PlainLedger) → is_some (ledger_state ledger) ≡ false →
-    [] ≡ history_in (ledger_state ledger)
-history_none ledger is = sym (ap history_of (so_far_none ledger.build (asked_so_far ledger) is))
-
--- and nothing was asked for
-pub many_none : (ledger : PlainLedger) → is_some (ledger_state ledger) ≡ false →
-    0 ≡ length (so_far_in (ledger_state ledger))
-many_none ledger is = sym (ap length (so_far_none ledger.build (asked_so_far ledger) is))
+-- before, its history is empty, and nothing was asked for
+pub entries_none : (ledger : PlainLedger) → is_some (ledger_state ledger) ≡ false →
+    ([] ≡ history_in (ledger_state ledger)) × (0 ≡ length (so_far_in (ledger_state ledger)))
+entries_none ledger is =
+    let none = sym (so_far_none ledger.build (asked_so_far ledger) is) in (ap history_of none, ap length none)
 
 -- where an event was asked for, what is answered is told by the plant's history as by that of the ledger
 pub answered_same : (ledger : PlainLedger) (before : Option BegunLedger) (one : PlainAsked) (batch : Option (List ℕ))

@@ -5,3 +5,6 @@ pub mod Going
 pub mod Orderly
 pub mod Found
 pub mod Ended
+pub mod Lives
+pub mod Runs
+pub mod Guarded

@@ -7,7 +7,6 @@ use Rattle.event_json.specs.declared.fault.LineFault.{LineFault}
 use Rattle.event_json.proofs.Orderly.{line_orderly}
 use Rattle.named_lines.specs.Named.{PlainNamed, named_of}
 use Rattle.named_lines.proofs.Said.{line_said}
-use Rattle.pol_events.specs.Events.{PlainEvent}
 use Rattle.pol_events.specs.Orderly.{is_orderly}
 use Rattle.pol_history.specs.Answers.{answer_of}
 use Rattle.pol_history.specs.Runs.{AreOrderly, IsLegal, IsOrderly, is_recorded}

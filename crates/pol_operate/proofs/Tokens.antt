@@ -5,11 +5,11 @@ use Rattle.std.specs.Prelude.{decimal}
 use Rattle.json.specs.Token as token
 use Rattle.json.specs.Token.{Token}
 use Rattle.json.specs.Tree.{items_tokens}
-use Rattle.serde_json.specs.Data.{Data, boolean, unsigned, number}
+use Rattle.serde_json.specs.Data.{Data, boolean, number}
 use Rattle.serde_json.specs.View.{items_of}
 use Rattle.serde_json.specs.Written.{items_outline}
 use Rattle.mtp_codes.specs.declared.value.Setting.{Setting}
-use Rattle.chart_json.specs.Written.{written_setting, written_settings}
+use Rattle.chart_json.specs.Written.{written_setting}
 use Rattle.mtp_json.specs.Written.{scalar_data}
 use Rattle.pol_record.specs.Objects.{data_tokens}
 use Rattle.pol_operate.specs.Texts.{did_object, end_object, kept_object}

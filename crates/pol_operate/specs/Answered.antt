@@ -10,7 +10,6 @@ use Rattle.pol_kept.specs.Keeping.{KeptState}
 use Rattle.pol_replay.specs.Meanings.{LineMeaning}
 use Rattle.pol_rights.specs.PlainPlantPolicy.{plain_plant_policy}
 use Rattle.pol_rights.specs.declared.plant_policy.PlantPolicy.{PlantPolicy}
-use Rattle.pol_ledger.specs.Items.{PlainItem}
 use Rattle.pol_ledger.specs.Ledgers.{PlainLedger, ledger_state}
 use Rattle.pol_ledger.specs.Work.{items_of, ledger_work}
 use Rattle.pol_operate.specs.Work.{ledger_met, text_met}

@@ -40,8 +40,8 @@ IsFaultOf opening.Memory fault = fault ≡ Memory
 IsFaultOf opening.Disk fault = fault ≡ Disk
 IsFaultOf (opening.NotAStore place) fault = fault ≡ NotALedger place
 
--- The disk stood for a ledger, or for none, and the job ended as one on the ledger that opening makes of it. The history
--- behind any lines is legal and orderly, so that all that is proved of such histories holds of it.
+-- The disk stood for a ledger, or for none, and the job ended as one on the ledger that opening makes of it. The
+-- history behind any lines is legal and orderly, so that all that is proved of such histories holds of it.
 pub record Operates (seen : Option (List ℕ)) (source source' sink sink' : Edge)
     (result : Result (Unit {0}) (JobFault JsonFault DiskFailed)) : Type 0 where
   pub found : Option BegunLedger

@@ -6,3 +6,5 @@ pub mod Answered
 pub mod Answering
 pub mod Kept
 pub mod Ends
+pub mod Asked
+pub mod Laws

@@ -9,7 +9,7 @@ use Rattle.pol_events.specs.Events.{PlainEvent, plug, unplug, report, variable, 
 use Rattle.pol_events.specs.Events.{stop_batch, abandon, desk, exchange_begin, exchange_end, exchange_cancel}
 use Rattle.pol_guard.specs.Lines as guard
 use Rattle.pol_policy.specs.declared.verdict.Verdict.{Verdict}
-use Rattle.pol_policy.specs.declared.verdict.Verdict.TheVariants.{Allowed, Denied}
+use Rattle.pol_policy.specs.declared.verdict.Verdict.TheVariants.{Denied}
 use Rattle.pol_rights.specs.Rules.{PlainPlantPolicy}
 use Rattle.pol_rights.specs.Verdicts.{verdict_on_line}
 use Rattle.pol_ledger.specs.Items.{PlainAsked}

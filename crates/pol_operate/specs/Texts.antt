@@ -1,5 +1,5 @@
 -- The lines of a plant that is operated which no journal has.
-use Rattle.std.specs.Prelude.{ℕ, List, [], ◌∷◌, map, length, true, codes, Option, Some, None}
+use Rattle.std.specs.Prelude.{ℕ, List, [], ◌∷◌, length, true, codes, Option, Some, None}
 use Rattle.std.specs.Option.{unwrap_or}
 use Rattle.hex.specs.Hex.{encode_lower}
 use Rattle.serde_json.specs.Data.{Data, boolean, number, unsigned, string, object, member, no_members}

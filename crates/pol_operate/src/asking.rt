@@ -38,11 +38,7 @@ fn advanced_by(event: &Event) -> Option<Name>
 }
 
 // The settings that an answer is told with: where a batch went on and started a step, those of that step.
-fn settings_told<'a>(
-    plant: &'a Plant,
-    batch: Option<Name>,
-    answer: &Answer,
-) -> &'a [Setting]
+fn settings_told<'a>(plant: &'a Plant, batch: Option<Name>, answer: &Answer) -> &'a [Setting]
     ensures { result.now ≡ settings_told (plant_history plant.now) batch answer.now }
 {
     let (Some(batch), Answer::Did(LogEntry::Start { step, .. })) = (batch, answer) else {

@@ -9,8 +9,7 @@ use pol_events::Entry;
 use pol_ledger::Ledger;
 
 /// The entries of a ledger's plant, one for each event that was asked for; none before the ledger was begun.
-#[tactic(auto, using(crate::proofs::Histories::history_begun, crate::proofs::Histories::history_none,
-    crate::proofs::Histories::many_begun, crate::proofs::Histories::many_none))]
+#[tactic(auto, using(crate::proofs::Histories::entries_begun, crate::proofs::Histories::entries_none))]
 pub fn history_in(ledger: &Ledger) -> &[Entry]
     ensures history { plain_history result.now ≡ history_in (ledger_state ledger.now) }
     ensures many { length result.now ≡ length (so_far_in (ledger_state ledger.now)) }

@@ -28,9 +28,9 @@ use pol_replay::{Answering, answer_line, is_some_line};
 use pol_rights::{PlantPolicy, read_plant_policy};
 use std::alloc::Global;
 
-/// The job on an operated plant: its first line that isn't blank is the policy, and each other line is at fault, denied,
-/// or asked of the ledger. What is asked is kept with what else is at hand before anything of it is answered. It closes
-/// with the line of each batch and the end line. Where the disk fails it stops, and its store is closed.
+/// The job on an operated plant: its first line that isn't blank is the policy, and each other line is at fault,
+/// denied, or asked of the ledger. What is asked is kept with what else is at hand before anything of it is answered. It
+/// closes with the line of each batch and the end line. Where the disk fails it stops, and its store is closed.
 pub struct Operating<D: Disk> {
     /// The memory that it takes.
     pub alloc: Global,
@@ -41,7 +41,10 @@ pub struct Operating<D: Disk> {
 }
 
 // The policy that a line says.
-fn policy_said(alloc: Global, line: InputLine<'_>) -> Result<PlantPolicy, Stop<JsonFault, DiskFailed>>
+fn policy_said(
+    alloc: Global,
+    line: InputLine<'_>,
+) -> Result<PlantPolicy, Stop<JsonFault, DiskFailed>>
     ensures says { IfOk result (λ policy. policy_said (plain_line line.entry) ≡ Ok (plain_plant_policy policy)) }
     ensures refused { IfErr result (RefusedFor (λ fault. policy_said (plain_line line.entry) ≡ Err fault)) }
     ensures unfailed { IfErr result (FailedSo ⊥) }
@@ -58,7 +61,11 @@ fn policy_said(alloc: Global, line: InputLine<'_>) -> Result<PlantPolicy, Stop<J
 
 impl<D: Disk> Operating<D> {
     // Takes the policy that a line says, and answers how much is kept; a blank line says none.
-    fn begin(&mut self, line: InputLine<'_>, out: &mut Vec<u8>) -> Result<(), Stop<JsonFault, DiskFailed>>
+    fn begin(
+        &mut self,
+        line: InputLine<'_>,
+        out: &mut Vec<u8>,
+    ) -> Result<(), Stop<JsonFault, DiskFailed>>
         requires { self.old.policy ≡ None }
         ensures line { OnOk result (out.new.items ≡ out.old.items
             ++ reply_by None (ledger_state self.old.store.chronicle) (plain_line line.entry)) }

@@ -5,7 +5,8 @@ ghost use Rattle.chart_json.specs.Written.{written_setting, written_settings};
 ghost use Rattle.pol_record.specs.Objects.{data_tokens};
 ghost use Rattle.pol_record.specs.Texts.{entry_data};
 ghost use Rattle.pol_ledger.specs.Ledgers.{ledger_state};
-ghost use Rattle.pol_operate.specs.Texts.{did_object, end_object, kept_object, kept_text, sealed_text, sum_text, told_text};
+ghost use Rattle.pol_operate.specs.Texts.{did_object, end_object, kept_object, kept_text, sealed_text, sum_text};
+ghost use Rattle.pol_operate.specs.Texts.{told_text};
 
 use crate::history::history_in;
 use chart_core::LogEntry;

@@ -1,4 +1,4 @@
-use Rattle.std.proofs.Common.{ap, sym}
+use Rattle.std.proofs.Common.{ap}
 use Rattle.std.proofs.lemmas.Result.{on_ok_weaker}
 use Rattle.kept_jobs.specs.Keeping.{job_state}
 use Rattle.kept_jobs.specs.Telling.{telling}

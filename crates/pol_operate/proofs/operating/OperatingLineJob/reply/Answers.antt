@@ -1,4 +1,4 @@
-use Rattle.std.proofs.Common.{◌≡◌, ap, subst, List}
+use Rattle.std.proofs.Common.{ap, subst, List}
 use Rattle.std.specs.Result.{is_ok}
 use Rattle.kept_jobs.specs.Keeping.{Adds}
 use Rattle.kept_jobs.specs.Telling.{telling}

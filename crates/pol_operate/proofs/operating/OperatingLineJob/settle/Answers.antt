@@ -1,8 +1,6 @@
 use Rattle.std.proofs.Common.{ap, true, false}
-use Rattle.std.specs.Option.{option_map}
 use Rattle.kept_jobs.specs.Telling.{telling}
 use Rattle.kept_jobs.proofs.Settling.{closes, settles, settles_before, unsettled}
-use Rattle.pol_rights.specs.PlainPlantPolicy.{plain_plant_policy}
 use Rattle.pol_ledger.specs.Ledgers.{ledger_state}
 use Rattle.pol_ledger.specs.Work.{ledger_work}
 use Rattle.pol_operate.specs.Operated.{known_items}
