@@ -13,8 +13,9 @@
 //! (`specs/Laws.antt`), and that the history is the run of the old events and of those that were asked for
 //! (`specs/Asked.antt`).
 //!
-//! It knows nothing of files, words or statuses, nor of how a policy judges or how a record is sealed. No job of the
-//! program uses it yet, and no test tries it.
+//! It knows nothing of files, words or statuses, nor of how a policy judges or how a record is sealed.
+//!
+//! Tried in `operate_examples`.
 #![tactic(auto)]
 
 mod asking;
