@@ -1,21 +1,31 @@
 -- The work of a finder, line by line, gives its output.
-use Rattle.std.proofs.Common.{◌≡◌, ◌≤◌, ◌+◌, ℕ, suc, min, List, [], ◌∷◌, map, length, refl, sym, ◌∙◌, arith}
+use Rattle.std.proofs.Common.{◌≡◌, ◌≤◌, ◌+◌, ℕ, suc, min, List, [], ◌∷◌, map, length, refl, ap, sym, ◌∙◌, arith}
 use Rattle.std.specs.Prelude.{filter}
 use Rattle.mtp_codes.specs.Numbers.{greatest_u64}
 use Rattle.pol_io.specs.Pieces.{pieces, line_of}
 use Rattle.pol_events.specs.Events.{PlainEvent}
 use Rattle.event_json.specs.Lines.{event_of}
+use Rattle.event_json.specs.declared.fault.LineFault.{LineFault}
 use Rattle.pol_history.specs.Looking.{History}
 use Rattle.pol_history.specs.Runs.{entry_of, recorded, history_after}
 use Rattle.pol_record.specs.Lines.{as_input_line, events_in, history_of, input_line_of}
-use Rattle.pol_jobs.specs.LineWork.{after_all, line_met, output_by, replies}
-use Rattle.pol_replay.specs.declared.meaning.LineMeaning.{LineMeaning}
-use Rattle.pol_replay.specs.declared.meaning.LineMeaning.TheVariants.{Nothing, Fault, Said}
-use Rattle.pol_replay.specs.Meanings.{meaning_met}
+use Rattle.pol_jobs.specs.LineWork.{Line, after_all, line_met, output_by, replies}
+use Rattle.pol_replay.specs.Meanings.{LineMeaning, at_fault, meaning_met, nothing, says}
 use Rattle.pol_replay.proofs.Spoken.{in_journal, met_means}
 use Rattle.pol_find.specs.Found.{IsFound}
 use Rattle.pol_find.specs.Finding.{Known, after_saying, bad_lines, find_work, found, is_at_fault, nothing_known}
 use Rattle.pol_find.specs.Finding.{one_more}
+
+-- what a finder knows after a line that says an event
+pub after_event : (known : Known) (line : Line) (event : PlainEvent) → meaning_met event_of line ≡ says event →
+    find_work.after known line
+    ≡ record known { history = recorded (entry_of known.history event) known.history }
+after_event known line event is = ap (after_saying known) is
+
+-- and after one that is at fault
+pub after_fault : (known : Known) (line : Line) (fault : LineFault) → meaning_met event_of line ≡ at_fault fault →
+    find_work.after known line ≡ record known { bad = one_more known.bad }
+after_fault known line fault is = ap (after_saying known) is
 
 -- a finder replies nothing to any line
 no_replies : (known : Known) (parts : List (List ℕ)) → replies find_work known parts ≡ []
@@ -54,9 +64,9 @@ after_rows history bad (piece ∷ parts) few =
               (bad + length (filter is_at_fault
               (as_input_line piece (in_journal meaning) ∷ map input_line_of parts))) greatest_u64;
         }
-    by_meaning Nothing rest = rest history bad few
-    by_meaning (Said event) rest = rest (recorded (entry_of history event) history) bad few
-    by_meaning (Fault fault) rest =
+    by_meaning nothing rest = rest history bad few
+    by_meaning (says event) rest = rest (recorded (entry_of history event) history) bad few
+    by_meaning (at_fault fault) rest =
         let low : one_more bad ≤ greatest_u64 = omega arith in
         let same : min (one_more bad + faults_in parts) greatest_u64
         ≡ min (bad + suc (faults_in parts)) greatest_u64 = omega arith in

@@ -8,9 +8,7 @@ use Rattle.pol_history.specs.Looking.{History}
 use Rattle.pol_history.specs.Runs.{entry_of, recorded}
 use Rattle.pol_record.specs.Lines.{InputLine, blank, faulty, happening, history_of, input_lines_of}
 use Rattle.pol_jobs.specs.LineWork.{LineWork, Output}
-use Rattle.pol_replay.specs.declared.meaning.LineMeaning.{LineMeaning}
-use Rattle.pol_replay.specs.declared.meaning.LineMeaning.TheVariants.{Nothing, Fault, Said}
-use Rattle.pol_replay.specs.Meanings.{meaning_met}
+use Rattle.pol_replay.specs.Meanings.{LineMeaning, at_fault, meaning_met, nothing, says}
 use Rattle.pol_core.specs.Plants.{plant_history}
 use Rattle.pol_find.specs.Found.{IsFound}
 use Rattle.pol_find.specs.declared.finding.Finding.{Finding}
@@ -34,9 +32,9 @@ one_more bad = min (bad + 1) greatest_u64
 
 -- what it knows after a line that says this
 abbrev pub after_saying : Known → LineMeaning PlainEvent → Known
-after_saying known Nothing = known
-after_saying known (Fault fault) = record known { bad = one_more known.bad }
-after_saying known (Said event) = record known { history = recorded (entry_of known.history event) known.history }
+after_saying known nothing = known
+after_saying known (at_fault fault) = record known { bad = one_more known.bad }
+after_saying known (says event) = record known { history = recorded (entry_of known.history event) known.history }
 
 -- what it does with each line, and at the end: it replies nothing, and closes with what is found
 abbrev pub find_work : LineWork Known Infallible

@@ -7,16 +7,18 @@ ghost use Rattle.pol_history.specs.Runs.{entry_of, recorded};
 ghost use Rattle.pol_find.specs.Finding.{known_by, nothing_known};
 
 use crate::telling::close;
+use event_json::LineFault;
 use pol_core::Plant;
 use pol_events::Event;
 use pol_io::Sink;
 use pol_jobs::{InputLine, LineJob, PutFault, Stop};
 use pol_lines::JournalLines;
-use pol_replay::{LineMeaning, read_meaning};
+use pol_replay::{Answering, answer_line};
 use std::alloc::{AllocError, Global};
 use std::convert::Infallible;
 
 // Lets the plant answer an event.
+#[inline(always)]
 fn apply(plant: &mut Plant, event: Event) -> Result<(), AllocError>
     requires { IsTrue (is_orderly (plain_event event)) }
     ensures { OnOk result (plant_history plant.new
@@ -47,6 +49,41 @@ impl Finding {
             bad: 0,
         }
     }
+}
+
+impl Answering<JournalLines> for Finding {
+    type Halt = AllocError;
+
+    ghost use Rattle.std.specs.Prelude.{◌≡◌, ⊤, refl};
+    ghost use Rattle.pol_find.specs.Finding.{find_work, known_by};
+
+    ghost Answers = { λ before now held holds line.
+        (holds ≡ held) × (known_by now ≡ find_work.after (known_by before) line) };
+
+    ghost Halts = { λ _ _ _ _. ⊤ };
+
+    #[inline(always)]
+    #[tactic(auto, using(crate::proofs::Replayed::after_event))]
+    fn said(&mut self, _line: &[u8], event: Event, _out: &mut Vec<u8>) -> Result<(), AllocError> {
+        apply(&mut self.plant, event)
+    }
+
+    #[tactic(auto, using(crate::proofs::Replayed::after_fault))]
+    fn fault(
+        &mut self,
+        _line: InputLine<'_>,
+        _fault: LineFault,
+        _out: &mut Vec<u8>,
+    ) -> Result<(), AllocError> {
+        self.bad = self.bad.saturating_add(1);
+        Ok(())
+    }
+
+    fn no_memory(&self) -> AllocError {
+        AllocError
+    }
+
+    ghost answers_blank = { λ finding held line blank. (refl, rw blank refl) };
 }
 
 impl LineJob for Finding {
@@ -80,13 +117,9 @@ impl LineJob for Finding {
     fn reply(
         &mut self,
         line: InputLine<'_>,
-        _out: &mut Vec<u8>,
+        out: &mut Vec<u8>,
     ) -> Result<(), Stop<Infallible, Infallible>> {
-        match read_meaning::<JournalLines>(self.alloc, line)? {
-            LineMeaning::Nothing => {}
-            LineMeaning::Fault(_) => self.bad = self.bad.saturating_add(1),
-            LineMeaning::Said(event) => apply(&mut self.plant, event)?,
-        }
+        answer_line::<JournalLines, _>(self.alloc, line, self, out)?;
         Ok(())
     }
 

@@ -1,58 +1,60 @@
--- What comes of a line as it is met, by what was read of it.
-use Rattle.std.proofs.Common.{◌≡◌, ℕ, Bool, true, false, List, [], Result, Ok, Err, Some, None, refl, ap, ◌∙◌}
+-- What a guard replies to a line behind its policy and what it knows after it, by what the line says.
+use Rattle.std.proofs.Common.{◌≡◌, Bool, true, false, Result, Ok, Err, Some, None, refl, ap}
 use Rattle.std.proofs.Common.{not, if◌then◌else◌}
 use Rattle.std.specs.List.{list_all}
-use Rattle.event_json.specs.Guarded.{PlainGuarded, guarded_of, plain_guarded}
+use Rattle.event_json.specs.Guarded.{PlainGuarded, guarded_of}
 use Rattle.event_json.specs.Lines.{is_blank_byte}
 use Rattle.event_json.specs.declared.fault.LineFault.{LineFault}
-use Rattle.event_json.specs.declared.guarded.Guarded.{Guarded}
+use Rattle.event_json.specs.declared.fault.LineFault.TheVariants.{TooLong}
 use Rattle.pol_history.specs.Looking.{History}
 use Rattle.pol_jobs.specs.LineWork.{Line}
 use Rattle.pol_policy.specs.Policies.{PlainPolicy}
-use Rattle.pol_replay.specs.declared.meaning.LineMeaning.{LineMeaning}
-use Rattle.pol_replay.specs.declared.meaning.LineMeaning.TheVariants.{Nothing}
-use Rattle.pol_replay.specs.Meanings.{is_some_line, meaning_from, meaning_met, seen_meaning}
+use Rattle.pol_record.specs.Texts.{fault_text}
+use Rattle.pol_replay.specs.Meanings.{at_fault, is_some_line, meaning_from, meaning_met, nothing, says}
 use Rattle.pol_guard.specs.Lines.{guarded_line, guarded_saying}
-use Rattle.pol_guard.specs.Work.{history_met, history_with, text_after, text_met}
+use Rattle.pol_guard.specs.Work.{begun, guard_work, history_with, text_after}
 
--- the output line that comes of a line
-text_of_line : (policy : PlainPolicy) (history : History) (line : Line) →
-    text_met policy history (meaning_met guarded_of line)
-    ≡ (if is_some_line line then text_after history (guarded_line policy line) else [])
-text_of_line policy history None = refl
-text_of_line policy history (Some text) = by_blank (list_all is_blank_byte text) (guarded_of text)
+-- a line that says or is at fault so isn't blank, and that comes of it
+comes : (policy : PlainPolicy) (line : Line) (read : Result PlainGuarded LineFault) →
+    meaning_met guarded_of line ≡ meaning_from read →
+    (is_some_line line ≡ true) × (guarded_line policy line ≡ guarded_saying policy read)
+comes policy None (Ok said) is = cc
+comes policy None (Err fault) is = (refl, let same : Err TooLong ≡ Err fault = cc in ap (guarded_saying policy) same)
+comes policy (Some text) read is = by_blank (list_all is_blank_byte text) (guarded_of text) read is
   where
-    by_blank : (blank : Bool) (said : Result PlainGuarded LineFault) →
-        text_met policy history (if blank then Nothing else meaning_from said)
-        ≡ (if not blank then text_after history (guarded_saying policy said) else [])
-    by_blank true said = refl
-    by_blank false (Ok said) = refl
-    by_blank false (Err fault) = refl
+    by_blank : (blank : Bool) (found read : Result PlainGuarded LineFault) →
+        (if blank then nothing else meaning_from found) ≡ meaning_from read →
+        (not blank ≡ true) × (guarded_saying policy found ≡ guarded_saying policy read)
+    by_blank true found (Ok said) is = cc
+    by_blank true found (Err fault) is = cc
+    by_blank false (Ok found) (Ok said) is =
+        let same : found ≡ said = cc in (refl, ap (λ one. guarded_saying policy (Ok one)) same)
+    by_blank false (Ok found) (Err fault) is = cc
+    by_blank false (Err found) (Ok said) is = cc
+    by_blank false (Err found) (Err fault) is =
+        let same : found ≡ fault = cc in (refl, ap (λ one. guarded_saying policy (Err one)) same)
 
--- the history that it leaves
-history_of_line : (policy : PlainPolicy) (history : History) (line : Line) →
-    history_met policy history (meaning_met guarded_of line)
-    ≡ (if is_some_line line then history_with history (guarded_line policy line) else history)
-history_of_line policy history None = refl
-history_of_line policy history (Some text) = by_blank (list_all is_blank_byte text) (guarded_of text)
-  where
-    by_blank : (blank : Bool) (said : Result PlainGuarded LineFault) →
-        history_met policy history (if blank then Nothing else meaning_from said)
-        ≡ (if not blank then history_with history (guarded_saying policy said) else history)
-    by_blank true said = refl
-    by_blank false (Ok said) = refl
-    by_blank false (Err fault) = refl
+-- so a guard replies what comes of what was said or is at fault, and knows it after it
+met : (policy : PlainPolicy) (history : History) (line : Line) (read : Result PlainGuarded LineFault) →
+    meaning_met guarded_of line ≡ meaning_from read →
+    (guard_work.reply (begun (Ok policy) history) line ≡ text_after history (guarded_saying policy read))
+    × (guard_work.after (begun (Ok policy) history) line
+    ≡ begun (Ok policy) (history_with history (guarded_saying policy read)))
+met policy history line read is =
+    let it = comes policy line read is in
+    rw it.0 (ap (text_after history) it.1, ap (λ one. begun (Ok policy) (history_with history one)) it.1)
 
--- so the output line that comes of what was read of it
-pub text_read : (policy : PlainPolicy) (history : History) (line : Line) (meaning : LineMeaning Guarded) →
-    seen_meaning plain_guarded meaning ≡ meaning_met guarded_of line →
-    text_met policy history (seen_meaning plain_guarded meaning)
-    ≡ (if is_some_line line then text_after history (guarded_line policy line) else [])
-text_read policy history line meaning is = ap (text_met policy history) is ∙ text_of_line policy history line
+-- of a line that says this
+pub to_saying : (policy : PlainPolicy) (history : History) (line : Line) (said : PlainGuarded) →
+    meaning_met guarded_of line ≡ says said →
+    (guard_work.reply (begun (Ok policy) history) line ≡ text_after history (guarded_saying policy (Ok said)))
+    × (guard_work.after (begun (Ok policy) history) line
+    ≡ begun (Ok policy) (history_with history (guarded_saying policy (Ok said))))
+to_saying policy history line said is = met policy history line (Ok said) is
 
--- and the history
-pub history_read : (policy : PlainPolicy) (history : History) (line : Line) (meaning : LineMeaning Guarded) →
-    seen_meaning plain_guarded meaning ≡ meaning_met guarded_of line →
-    history_met policy history (seen_meaning plain_guarded meaning)
-    ≡ (if is_some_line line then history_with history (guarded_line policy line) else history)
-history_read policy history line meaning is = ap (history_met policy history) is ∙ history_of_line policy history line
+-- and of one that is at fault
+pub to_fault : (policy : PlainPolicy) (history : History) (line : Line) (fault : LineFault) →
+    meaning_met guarded_of line ≡ at_fault fault →
+    (guard_work.reply (begun (Ok policy) history) line ≡ fault_text fault)
+    × (guard_work.after (begun (Ok policy) history) line ≡ begun (Ok policy) history)
+to_fault policy history line fault is = met policy history line (Err fault) is

@@ -3,7 +3,6 @@ use Rattle.std.specs.Prelude.{ℕ, ◌≡◌, List, [], IsTrue, Ok, Err, if◌th
 use Rattle.mtp_json.specs.ReadResult.{ReadResult, here}
 use Rattle.mtp_json.specs.declared.fault.FaultKind.TheVariants.{Missing}
 use Rattle.mtp_json.specs.declared.fault.JsonFault.{JsonFault}
-use Rattle.event_json.specs.Guarded.{PlainGuarded}
 use Rattle.pol_history.specs.Answers.{answer_of}
 use Rattle.pol_history.specs.Looking.{History}
 use Rattle.pol_history.specs.Runs.{entry_of, recorded}
@@ -11,12 +10,10 @@ use Rattle.pol_jobs.specs.LineWork.{Line, LineWork}
 use Rattle.pol_policy.specs.Policies.{PlainPolicy}
 use Rattle.pol_record.specs.Lines.{closing_text}
 use Rattle.pol_record.specs.Texts.{answer_text, fault_text}
-use Rattle.pol_replay.specs.declared.meaning.LineMeaning.{LineMeaning}
-use Rattle.pol_replay.specs.declared.meaning.LineMeaning.TheVariants.{Nothing, Fault, Said}
 use Rattle.pol_replay.specs.Meanings.{is_some_line}
 use Rattle.pol_guard.specs.Denials.{denial_text}
 use Rattle.pol_guard.specs.Guarded.{policy_said}
-use Rattle.pol_guard.specs.Lines.{GuardedLine, faulty, denied, admitted, guarded_line, guarded_saying}
+use Rattle.pol_guard.specs.Lines.{GuardedLine, faulty, denied, admitted, guarded_line}
 
 -- what a guard knows between two lines: all were blank; or what the first said that wasn't, and the history since then
 pub data Known : Type 0 where
@@ -34,18 +31,6 @@ abbrev pub history_with : History → GuardedLine → History
 history_with history (faulty fault) = history
 history_with history (denied rule) = history
 history_with history (admitted event) = recorded (entry_of history event) history
-
--- the output line that what a line says brings after a history; nothing, where it says nothing
-abbrev pub text_met : PlainPolicy → History → LineMeaning PlainGuarded → List ℕ
-text_met policy history Nothing = []
-text_met policy history (Fault fault) = text_after history (faulty fault)
-text_met policy history (Said said) = text_after history (guarded_saying policy (Ok said))
-
--- the history that it leaves
-abbrev pub history_met : PlainPolicy → History → LineMeaning PlainGuarded → History
-history_met policy history Nothing = history
-history_met policy history (Fault fault) = history_with history (faulty fault)
-history_met policy history (Said said) = history_with history (guarded_saying policy (Ok said))
 
 -- what is replied to a line that isn't blank: nothing to the policy
 abbrev pub reply_some : Known → Line → List ℕ

@@ -1,21 +1,21 @@
 //! A journal under a policy, line by line.
-ghost use Rattle.std.specs.Prelude.{◌≡◌, [], IfOk, IfErr, Ok, Err};
+ghost use Rattle.std.specs.Prelude.{◌≡◌, [], IfOk, IfErr, OnOk, Ok, Err};
 ghost use Rattle.pol_jobs.specs.Faults.{RefusedFor};
 ghost use Rattle.pol_jobs.specs.InputLines.{plain_line};
+ghost use Rattle.pol_jobs.specs.LineWork.{Accepts};
 ghost use Rattle.pol_policy.specs.PlainPolicy.{plain_policy};
-ghost use Rattle.pol_replay.specs.Meanings.{is_some_line};
 ghost use Rattle.pol_guard.specs.Guarded.{policy_said};
 ghost use Rattle.pol_guard.specs.Guards.{known_by};
-ghost use Rattle.pol_guard.specs.Work.{waiting};
+ghost use Rattle.pol_guard.specs.Work.{guard_work, waiting};
 
-use crate::replying::reply_to;
-use event_json::is_blank;
+use crate::replying::GuardedPlant;
 use mtp_json::{FaultKind, JsonFault, JsonRefusal, Path};
 use pol_core::Plant;
 use pol_io::Sink;
 use pol_jobs::{InputLine, LineJob, PutFault, Stop};
+use pol_lines::GuardedLines;
 use pol_policy::{Policy, read_policy};
-use pol_replay::close;
+use pol_replay::{answer_line, close, is_some_line};
 use std::alloc::Global;
 use std::convert::Infallible;
 
@@ -25,21 +25,11 @@ pub enum Guard {
     /// Nothing: all lines were blank.
     Waiting,
     /// The policy, and the plant behind it.
-    Begun { policy: Policy, plant: Plant },
+    Begun(GuardedPlant),
 }
 
-// Whether a line isn't blank.
-fn is_some_line(line: InputLine<'_>) -> bool
-    ensures { result ≡ is_some_line (plain_line line.entry) }
-{
-    match line {
-        InputLine::Text(text) => !is_blank(text),
-        InputLine::TooLong => true,
-    }
-}
-
-// A fault of the whole policy.
-fn whole(alloc: Global, kind: FaultKind) -> JsonFault
+/// A fault of a whole policy.
+pub fn whole(alloc: Global, kind: FaultKind) -> JsonFault
     ensures { result ≡ record { kind = kind; path = [] } }
 {
     JsonFault {
@@ -61,6 +51,32 @@ fn policy_said(alloc: Global, line: InputLine<'_>) -> Result<Policy, Stop<JsonFa
         Err(JsonRefusal::Fault(fault)) => Err(Stop::Refused(fault)),
         Err(JsonRefusal::Memory) => Err(Stop::Memory),
     }
+}
+
+// Begins with the policy that a line says, unless it is blank. The large locals of that stand here, so that the lines
+// behind the policy don't pay for them.
+#[inline(never)]
+fn begin(
+    alloc: Global,
+    guard: &mut Guard,
+    line: InputLine<'_>,
+) -> Result<(), Stop<JsonFault, Infallible>>
+    requires { known_by guard.old ≡ waiting }
+    ensures after { OnOk result (known_by guard.new ≡ guard_work.after waiting (plain_line line.entry)) }
+    ensures accepted { OnOk result (Accepts guard_work waiting (plain_line line.entry)) }
+    ensures refused { IfErr result (RefusedFor (guard_work.Refuses waiting (plain_line line.entry))) }
+{
+    if !is_some_line(line) {
+        return Ok(());
+    }
+    let policy = policy_said(alloc, line)?;
+    let plant = Plant::new(alloc);
+    *guard = Guard::Begun(GuardedPlant {
+        alloc,
+        policy,
+        plant,
+    });
+    Ok(())
 }
 
 /// A guard: its first line that isn't blank is its policy, and it replies to each other line of the journal as the
@@ -118,19 +134,12 @@ impl LineJob for Guarding {
         out: &mut Vec<u8>,
     ) -> Result<(), Stop<JsonFault, Infallible>> {
         match &mut self.guard {
-            Guard::Waiting => {
-                if !is_some_line(line) {
-                    return Ok(());
-                }
-                let policy = policy_said(self.alloc, line)?;
-                let plant = Plant::new(self.alloc);
-                self.guard = Guard::Begun { policy, plant };
-            }
-            Guard::Begun { policy, plant } => {
-                reply_to(self.alloc, policy, plant, line, out)?;
+            Guard::Waiting => begin(self.alloc, &mut self.guard, line),
+            Guard::Begun(guarded) => {
+                answer_line::<GuardedLines, _>(self.alloc, line, guarded, out)?;
+                Ok(())
             }
         }
-        Ok(())
     }
 
     fn settle(&mut self) -> Result<(), Infallible> {
@@ -140,7 +149,7 @@ impl LineJob for Guarding {
     fn end(&mut self) -> Result<(), Stop<JsonFault, Infallible>> {
         match &self.guard {
             Guard::Waiting => Err(Stop::Refused(whole(self.alloc, FaultKind::Missing))),
-            Guard::Begun { .. } => Ok(()),
+            Guard::Begun(_) => Ok(()),
         }
     }
 
@@ -148,7 +157,7 @@ impl LineJob for Guarding {
     fn close<K: Sink>(&mut self, sink: &mut K) -> Result<(), PutFault> {
         match &self.guard {
             Guard::Waiting => close(self.alloc, &[], sink),
-            Guard::Begun { plant, .. } => close(self.alloc, plant.history(), sink),
+            Guard::Begun(guarded) => close(self.alloc, guarded.plant.history(), sink),
         }
     }
 }

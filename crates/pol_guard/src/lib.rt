@@ -17,5 +17,7 @@ mod guarding;
 mod laws;
 mod replying;
 
-pub use guarding::Guarding;
+pub use denials::put_denial_line;
+pub use guarding::{Guarding, whole};
 pub use laws::guards_are_sound;
+pub use replying::verdict_on;

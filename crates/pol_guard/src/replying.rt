@@ -1,105 +1,91 @@
-//! The reply to a line of a journal under a policy.
-ghost use Rattle.std.specs.Prelude.{◌≡◌, ◌++◌, [], IsTrue, Ok, OnOk, if◌then◌else◌};
-ghost use Rattle.pol_jobs.specs.InputLines.{plain_line};
+//! The answer to what a line of a journal says, under a policy.
+ghost use Rattle.std.specs.Prelude.{◌≡◌};
 ghost use Rattle.pol_policy.specs.PlainPolicy.{plain_policy};
 ghost use Rattle.pol_events.specs.Events.{plain_event};
-ghost use Rattle.pol_events.specs.Orderly.{is_orderly};
-ghost use Rattle.event_json.specs.Guarded.{plain_guarded};
-ghost use Rattle.pol_core.specs.Plants.{plant_history};
-ghost use Rattle.pol_replay.specs.Meanings.{IsOrderlyAs, is_some_line, seen_meaning};
-ghost use Rattle.pol_guard.specs.Lines.{guarded_line, guarded_saying, verdict_on};
-ghost use Rattle.pol_guard.specs.Work.{history_met, history_with, text_after, text_met};
+ghost use Rattle.pol_guard.specs.Lines.{verdict_on};
 
 use crate::denials::put_denial_line;
-use event_json::Guarded;
+use event_json::{Guarded, LineFault};
+use mtp_codes::Name;
 use pol_core::Plant;
 use pol_events::Event;
 use pol_jobs::InputLine;
 use pol_lines::GuardedLines;
 use pol_policy::{Policy, Verdict};
 use pol_record::put_fault_line;
-use pol_replay::{LineMeaning, answer_event, read_meaning};
+use pol_replay::{Answering, answer_event};
 use std::alloc::{AllocError, Global};
 
-// The verdict of a policy on an event; None where it asks nothing of a policy.
-fn verdict_on(policy: &Policy, said: &Guarded) -> Option<Verdict>
-    ensures { result ≡ verdict_on (plain_policy policy.now) (plain_event said.now.event) said.now.by }
+/// The verdict of a policy on an event that this person gives, or nobody who is named; None where it asks nothing of a
+/// policy.
+pub fn verdict_on(policy: &Policy, event: &Event, by: Option<Name>) -> Option<Verdict>
+    ensures { result ≡ verdict_on (plain_policy policy.now) (plain_event event.now) by }
 {
     let Event::Desk {
         tag,
         service,
         command,
         ..
-    } = &said.event
+    } = event
     else {
         return None;
     };
-    match said.by {
+    match by {
         Some(by) => Some(policy.judge(by, *tag, *service, *command)),
         None => Some(Verdict::Denied(None)),
     }
 }
 
-// Puts the line that comes of an event behind what a buffer holds: the denial of what it asks, or else the plant's
-// answer.
-fn judge_event(
-    alloc: Global,
-    policy: &Policy,
-    plant: &mut Plant,
-    said: Guarded,
-    out: &mut Vec<u8>,
-) -> Result<(), AllocError>
-    requires { IsTrue (is_orderly (plain_event said.event)) }
-    ensures line { OnOk result (out.new.items ≡ out.old.items ++ text_after (plant_history plant.old)
-        (guarded_saying (plain_policy policy.now) (Ok (plain_guarded said)))) }
-    ensures history { OnOk result (plant_history plant.new ≡ history_with (plant_history plant.old)
-        (guarded_saying (plain_policy policy.now) (Ok (plain_guarded said)))) }
-{
-    match verdict_on(policy, &said) {
-        Some(Verdict::Denied(rule)) => put_denial_line(alloc, out, rule),
-        Some(Verdict::Allowed(_)) | None => answer_event(alloc, plant, said.event, out),
-    }
+/// A policy and the plant behind it. A line is answered with its fault, with the denial of what it asks, or with the
+/// plant's answer to its event. One that is denied or at fault leaves the history as it was.
+#[derive(Drop)]
+pub struct GuardedPlant {
+    /// The memory that it takes.
+    pub alloc: Global,
+    /// The policy.
+    pub policy: Policy,
+    /// The plant.
+    pub plant: Plant,
 }
 
-// Puts the line that comes of what a line says behind what a buffer holds; nothing, where it says nothing.
-fn answer(
-    alloc: Global,
-    policy: &Policy,
-    plant: &mut Plant,
-    meaning: LineMeaning<Guarded>,
-    out: &mut Vec<u8>,
-) -> Result<(), AllocError>
-    requires { IsOrderlyAs (λ said. plain_event said.event) meaning }
-    ensures line { OnOk result (out.new.items ≡ out.old.items ++ text_met (plain_policy policy.now)
-        (plant_history plant.old) (seen_meaning plain_guarded meaning)) }
-    ensures history { OnOk result (plant_history plant.new ≡ history_met (plain_policy policy.now)
-        (plant_history plant.old) (seen_meaning plain_guarded meaning)) }
-{
-    match meaning {
-        LineMeaning::Nothing => Ok(()),
-        LineMeaning::Fault(fault) => put_fault_line(alloc, out, &fault),
-        LineMeaning::Said(said) => judge_event(alloc, policy, plant, said, out),
-    }
-}
+impl Answering<GuardedLines> for GuardedPlant {
+    type Halt = AllocError;
 
-/// Puts the line that comes of a line behind what a buffer holds: of its fault, of the denial of what it asks, or of
-/// the plant's answer to its event; nothing, where it is blank. A line that is denied or at fault leaves the history as
-/// it was.
-#[tactic(auto, using(crate::proofs::Meant::text_read, crate::proofs::Meant::history_read))]
-pub fn reply_to(
-    alloc: Global,
-    policy: &Policy,
-    plant: &mut Plant,
-    line: InputLine<'_>,
-    out: &mut Vec<u8>,
-) -> Result<(), AllocError>
-    ensures line { OnOk result (out.new.items ≡ out.old.items ++ (if is_some_line (plain_line line.entry)
-        then text_after (plant_history plant.old) (guarded_line (plain_policy policy.now) (plain_line line.entry))
-        else [])) }
-    ensures history { OnOk result (plant_history plant.new ≡ (if is_some_line (plain_line line.entry)
-        then history_with (plant_history plant.old) (guarded_line (plain_policy policy.now) (plain_line line.entry))
-        else plant_history plant.old)) }
-{
-    let meaning = read_meaning::<GuardedLines>(alloc, line)?;
-    answer(alloc, policy, plant, meaning, out)
+    ghost use Rattle.std.specs.Prelude.{◌≡◌, ◌++◌, ⊤};
+    ghost use Rattle.std.proofs.Common.{append-nil, refl, sym};
+    ghost use Rattle.pol_guard.specs.Guards.{known_behind};
+    ghost use Rattle.pol_guard.specs.Work.{guard_work};
+
+    ghost Answers = { λ before now held holds line.
+        (holds ≡ held ++ guard_work.reply (known_behind before) line)
+        × (known_behind now ≡ guard_work.after (known_behind before) line) };
+
+    ghost Halts = { λ _ _ _ _. ⊤ };
+
+    #[inline(always)]
+    #[tactic(auto, using(crate::proofs::Meant::to_saying))]
+    fn said(&mut self, _line: &[u8], said: Guarded, out: &mut Vec<u8>) -> Result<(), AllocError> {
+        match verdict_on(&self.policy, &said.event, said.by) {
+            Some(Verdict::Denied(rule)) => put_denial_line(self.alloc, out, rule),
+            Some(Verdict::Allowed(_)) | None => {
+                answer_event(self.alloc, &mut self.plant, said.event, out)
+            }
+        }
+    }
+
+    #[tactic(auto, using(crate::proofs::Meant::to_fault))]
+    fn fault(
+        &mut self,
+        _line: InputLine<'_>,
+        fault: LineFault,
+        out: &mut Vec<u8>,
+    ) -> Result<(), AllocError> {
+        put_fault_line(self.alloc, out, &fault)
+    }
+
+    fn no_memory(&self) -> AllocError {
+        AllocError
+    }
+
+    ghost answers_blank = { λ guarded held line blank. (rw blank (sym (append-nil held)), rw blank refl) };
 }

@@ -1,7 +1,7 @@
 -- The calls of a store that keeps a plant, one at a time.
 use Rattle.std.proofs.Common.{◌≡◌, inl, inr, ℕ, ◌+◌, ◌≤◌, Bool, true, false, List, [], ◌∷◌, ◌++◌, Option, Some, None}
 use Rattle.std.proofs.Common.{refl, sym, ◌∙◌, ap, subst, append_assoc, append-nil, length-append}
-use Rattle.std.specs.Prelude.{if◌then◌else◌}
+use Rattle.std.specs.Prelude.{Result, Ok, Err, OnOk, IfErr, is_ok, if◌then◌else◌}
 use Rattle.pol_core.specs.Plants.{plant_history}
 use Rattle.pol_disk.specs.Disks.{LeavesOnly, ToldOn}
 use Rattle.pol_disk.proofs.Moments.{then as and_then, wider}
@@ -103,6 +103,14 @@ uncalled store whole = record {
   history = λ is_whole. refl;
   waits = λ is_whole kept group parts. (group, parts);
 }
+
+-- a line was answered, or stayed unanswered
+pub either : {D E : Type 0} (before now : StoreState D) (after : History) (Has : Type 0) (So : E → Type 0)
+    (result : Result (Unit {0}) E) → OnOk result (Has × (plant_history now.plant ≡ after) × Admits before now after true)
+    → IfErr result (λ stop. ((after : History) → Admits before now after false) × So stop)
+    → Admits before now after (is_ok result)
+either before now after Has So (Ok _) answered halted = answered.2
+either before now after Has So (Err stop) answered halted = halted.0 after
 
 -- where the events that wait couldn't be kept, the store is closed
 pub fails_closed : {D : Type 0} (faults : D → ℕ) (before now : StoreState D) (fault : CommitFault) →

@@ -1,12 +1,15 @@
 //! A replay on a plant that is kept on a disk.
 
-use crate::answering::answer;
+use crate::answering::answer_event;
 use crate::fault::DiskFailed;
+use event_json::LineFault;
 use pol_disk::Disk;
+use pol_events::Event;
 use pol_io::Sink;
 use pol_jobs::{InputLine, LineJob, PutFault, Stop};
 use pol_lines::JournalLines;
-use pol_replay::{close, read_meaning};
+use pol_record::put_fault_line;
+use pol_replay::{Answering, answer_line, close};
 use pol_store::Store;
 use std::alloc::Global;
 use std::convert::Infallible;
@@ -19,6 +22,64 @@ pub struct Keeping<D: Disk> {
     pub alloc: Global,
     /// The plant and its disk.
     pub store: Store<D>,
+}
+
+impl<D: Disk> Answering<JournalLines> for Keeping<D> {
+    type Halt = Stop<Infallible, DiskFailed>;
+
+    ghost use Rattle.std.specs.Prelude.{◌≡◌, ◌++◌, true, false};
+    ghost use Rattle.std.proofs.Common.{append-nil, refl, sym};
+    ghost use Rattle.pol_core.specs.Plants.{plant_history};
+    ghost use Rattle.pol_history.specs.Looking.{History};
+    ghost use Rattle.pol_jobs.specs.Faults.{FailedSo};
+    ghost use Rattle.pol_replay.specs.Replay.{replay_work};
+    ghost use Rattle.pol_keep.specs.Keeping.{Admits};
+
+    ghost Answers = { λ before now held holds line.
+        (holds ≡ held ++ replay_work.reply (plant_history before.store.plant) line)
+        × (plant_history now.store.plant ≡ replay_work.after (plant_history before.store.plant) line)
+        × Admits before.store now.store (replay_work.after (plant_history before.store.plant) line) true };
+
+    ghost Halts = { λ before now line stop.
+        ((after : History) → Admits before.store now.store after false) × FailedSo (now.store.closed ≡ true) stop };
+
+    #[inline(always)]
+    #[tactic(auto, using(pol_replay::proofs::Replied::to_event))]
+    fn said(
+        &mut self,
+        _line: &[u8],
+        event: Event,
+        out: &mut Vec<u8>,
+    ) -> Result<(), Stop<Infallible, DiskFailed>> {
+        answer_event(self.alloc, &mut self.store, event, out)
+    }
+
+    #[tactic(auto, using(pol_replay::proofs::Replied::to_fault, crate::proofs::Settling::uncalled))]
+    fn fault(
+        &mut self,
+        _line: InputLine<'_>,
+        fault: LineFault,
+        out: &mut Vec<u8>,
+    ) -> Result<(), Stop<Infallible, DiskFailed>> {
+        put_fault_line(self.alloc, out, &fault)?;
+        Ok(())
+    }
+
+    #[tactic(auto, using(crate::proofs::Settling::refused))]
+    fn no_memory(&self) -> Stop<Infallible, DiskFailed> {
+        Stop::Memory
+    }
+
+    ghost answers_blank = { λ keeping held line blank. (
+      rw blank (sym (append-nil held)),
+      rw blank refl,
+      rw blank (record {
+        uncalled = refl;
+        opened = λ opened. opened;
+        history = λ is_whole. refl;
+        waits = λ is_whole kept group parts. (group, parts);
+      }),
+    ) };
 }
 
 impl<D: Disk> LineJob for Keeping<D> {
@@ -61,9 +122,7 @@ impl<D: Disk> LineJob for Keeping<D> {
         line: InputLine<'_>,
         out: &mut Vec<u8>,
     ) -> Result<(), Stop<Infallible, DiskFailed>> {
-        let meaning = read_meaning::<JournalLines>(self.alloc, line)?;
-        answer(self.alloc, &mut self.store, meaning, out)?;
-        Ok(())
+        answer_line::<JournalLines, _>(self.alloc, line, self, out)
     }
 
     fn settle(&mut self) -> Result<(), DiskFailed> {

@@ -1,16 +1,14 @@
 //! The job that migrates a journal of version 1.
 ghost use Rattle.std.specs.Prelude.{◌≡◌, ◌++◌, OnOk};
 ghost use Rattle.pol_events.specs.Events.{plain_event};
-ghost use Rattle.pol_jobs.specs.InputLines.{plain_line};
-ghost use Rattle.pol_migration.specs.Job.{migrated_met};
 ghost use Rattle.pol_migration.specs.Migration.{migrated_event};
 
-use event_json::event_value;
+use event_json::{LineFault, event_value};
 use pol_events::Event;
 use pol_io::Sink;
 use pol_jobs::{InputLine, LineJob, PutFault, Stop};
 use pol_lines::LinesOfVersion1;
-use pol_replay::{LineMeaning, read_meaning};
+use pol_replay::{Answering, answer_line};
 use std::alloc::{AllocError, Global};
 use std::convert::Infallible;
 
@@ -29,20 +27,6 @@ fn put_event(alloc: Global, line: &[u8], event: &Event, out: &mut Vec<u8>) -> Re
     Ok(())
 }
 
-// Puts what a line becomes behind what a buffer holds.
-#[tactic(auto, using(crate::proofs::Meant::line_read))]
-fn put_line(alloc: Global, line: InputLine<'_>, out: &mut Vec<u8>) -> Result<(), AllocError>
-    ensures { OnOk result (out.new.items ≡ out.old.items ++ migrated_met (plain_line line.entry)) }
-{
-    let InputLine::Text(text) = line else {
-        return Ok(());
-    };
-    match read_meaning::<LinesOfVersion1>(alloc, line)? {
-        LineMeaning::Said(event) => put_event(alloc, text, &event, out),
-        LineMeaning::Nothing | LineMeaning::Fault(_) => Ok(()),
-    }
-}
-
 /// A migration: each line that is an event by version 1 becomes its line in version 2, and every other line nothing.
 #[derive(Drop)]
 pub struct Migrating {
@@ -54,6 +38,40 @@ impl Migrating {
     pub fn new(alloc: Global) -> Migrating {
         Migrating { alloc }
     }
+}
+
+impl Answering<LinesOfVersion1> for Migrating {
+    type Halt = AllocError;
+
+    ghost use Rattle.std.specs.Prelude.{◌≡◌, ◌++◌, ⊤};
+    ghost use Rattle.std.proofs.Common.{append-nil, sym};
+    ghost use Rattle.pol_migration.specs.Job.{migrated_met};
+
+    ghost Answers = { λ before now held holds line. holds ≡ held ++ migrated_met line };
+
+    ghost Halts = { λ _ _ _ _. ⊤ };
+
+    #[inline(always)]
+    #[tactic(auto, using(crate::proofs::Meant::event_becomes))]
+    fn said(&mut self, line: &[u8], event: Event, out: &mut Vec<u8>) -> Result<(), AllocError> {
+        put_event(self.alloc, line, &event, out)
+    }
+
+    #[tactic(auto, using(crate::proofs::Meant::fault_becomes))]
+    fn fault(
+        &mut self,
+        _line: InputLine<'_>,
+        _fault: LineFault,
+        _out: &mut Vec<u8>,
+    ) -> Result<(), AllocError> {
+        Ok(())
+    }
+
+    fn no_memory(&self) -> AllocError {
+        AllocError
+    }
+
+    ghost answers_blank = { λ migrating held line blank. rw blank (sym (append-nil held)) };
 }
 
 impl LineJob for Migrating {
@@ -89,7 +107,7 @@ impl LineJob for Migrating {
         line: InputLine<'_>,
         out: &mut Vec<u8>,
     ) -> Result<(), Stop<Infallible, Infallible>> {
-        put_line(self.alloc, line, out)?;
+        answer_line::<LinesOfVersion1, _>(self.alloc, line, self, out)?;
         Ok(())
     }
 

@@ -8,11 +8,10 @@ use Rattle.pol_policy.specs.Allowing.{lists}
 use Rattle.pol_policy.specs.Deciding.{admits_person, is_next, leads_through}
 use Rattle.pol_policy.specs.Names.{name_has}
 use Rattle.pol_policy.specs.Places.{passes_at}
-use Rattle.pol_policy.specs.Policies.{plain_group, plain_rule}
+use Rattle.pol_policy.specs.Policies.{plain_group}
 use Rattle.pol_policy.specs.Tables.{above_has, is_next_group, member_has}
 use Rattle.pol_policy.specs.declared.name_index.NameIndex.{NameIndex}
 use Rattle.pol_policy.specs.declared.parts.Group.{Group}
-use Rattle.pol_policy.specs.declared.parts.PolicyRule.{PolicyRule}
 use Rattle.pol_policy.proofs.Passing.{and_false, any_alike, at_place, passes_map}
 
 -- groups seen as plain data lead where they lead
@@ -83,22 +82,23 @@ nobody groups index place never person =
     ∙ and_false (is_among last.members.items person)))
 
 -- the table of people
-pub who_is : (groups : List Group) (rules : List PolicyRule) (listed whole : NameIndex)
+pub who_is : {R Plain : Type 0} (plain : R → Plain) (people : Plain → Option (List (List ℕ))) (groups : List Group)
+    (rules : List R) (listed whole : NameIndex)
     → ((name : List ℕ) (place : ℕ) → name_has listed name place
-    ≡ passes_at (λ rule. lists same_name (plain_rule rule).who name) rules place)
+    ≡ passes_at (λ rule. lists same_name (people (plain rule)) name) rules place)
     → ((name : List ℕ) (place : ℕ) → name_has whole name place ≡ member_has groups listed name place)
     → (person : List ℕ) (place : ℕ) → name_has whole person place
-    ≡ passes_at (λ rule. admits_person (map plain_group groups) person rule.who) (map plain_rule rules) place
-who_is groups rules listed whole lists_names given person place =
+    ≡ passes_at (λ rule. admits_person (map plain_group groups) person (people rule)) (map plain rules) place
+who_is {R} plain people groups rules listed whole lists_names given person place =
     given person place
     ∙ ⊎_elim
-    (λ (here : (rule : PolicyRule) × ((test : PolicyRule → Bool) → passes_at test rules place ≡ test rule)).
-    joined groups listed place (plain_rule here.0).who
-    (λ name. lists_names name place ∙ here.1 (λ rule. lists same_name (plain_rule rule).who name)) person
-    ∙ sym (here.1 (λ rule. admits_person (map plain_group groups) person (plain_rule rule).who)))
-    (λ (none : (test : PolicyRule → Bool) → passes_at test rules place ≡ false).
+    (λ (here : (rule : R) × ((test : R → Bool) → passes_at test rules place ≡ test rule)).
+    joined groups listed place (people (plain here.0))
+    (λ name. lists_names name place ∙ here.1 (λ rule. lists same_name (people (plain rule)) name)) person
+    ∙ sym (here.1 (λ rule. admits_person (map plain_group groups) person (people (plain rule)))))
+    (λ (none : (test : R → Bool) → passes_at test rules place ≡ false).
     nobody groups listed place
-    (λ name. lists_names name place ∙ none (λ rule. lists same_name (plain_rule rule).who name)) person
-    ∙ sym (none (λ rule. admits_person (map plain_group groups) person (plain_rule rule).who)))
+    (λ name. lists_names name place ∙ none (λ rule. lists same_name (people (plain rule)) name)) person
+    ∙ sym (none (λ rule. admits_person (map plain_group groups) person (people (plain rule)))))
     (at_place rules place)
-    ∙ sym (passes_map plain_rule (λ rule. admits_person (map plain_group groups) person rule.who) rules place)
+    ∙ sym (passes_map plain (λ rule. admits_person (map plain_group groups) person (people rule)) rules place)

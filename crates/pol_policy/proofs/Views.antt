@@ -2,7 +2,6 @@
 use Rattle.std.proofs.Common.{ℕ, List, map, Result, Ok, Err, Option, Some, None, ◌∙◌, ap, Vec, Global}
 use Rattle.std.specs.Option.{option_map}
 use Rattle.std.proofs.lemmas.List.{map-id}
-use Rattle.mtp_codes.specs.declared.command.Command.{Command}
 use Rattle.mtp_codes.specs.declared.name.Name.{Name}
 use Rattle.mtp_json.specs.declared.fault.JsonRefusal.{JsonRefusal}
 use Rattle.mtp_json.specs.ReadsAs.{ReadsAs}
@@ -23,11 +22,11 @@ names_if_seen (Ok None) read gives = gives
 names_if_seen (Ok (Some found)) read gives = gives ∙ ap (λ names. Ok (Some names)) (map-id found.items)
 names_if_seen (Err refusal) read gives = gives
 
--- commands are plain data as they are
-pub commands_if_seen : (result : Result (Option (Vec Command Global)) JsonRefusal) (read : ReadResult (Option
-    (List Command)))
-    → ReadsAs (option_map (λ found. map (λ command. command) found.items)) result read
+-- and of items of any type that are plain data as they are
+pub items_if_seen : {A : Type 0} (result : Result (Option (Vec A Global)) JsonRefusal) (read : ReadResult (Option
+    (List A)))
+    → ReadsAs (option_map (λ found. map (λ item. item) found.items)) result read
     → ReadsAs (option_map (λ found. found.items)) result read
-commands_if_seen (Ok None) read gives = gives
-commands_if_seen (Ok (Some found)) read gives = gives ∙ ap (λ commands. Ok (Some commands)) (map-id found.items)
-commands_if_seen (Err refusal) read gives = gives
+items_if_seen (Ok None) read gives = gives
+items_if_seen (Ok (Some found)) read gives = gives ∙ ap (λ items. Ok (Some items)) (map-id found.items)
+items_if_seen (Err refusal) read gives = gives

@@ -1,7 +1,6 @@
 //! For each command the places of some rules.
 ghost use Rattle.std.specs.Prelude.{◌≡◌, ◌≤◌, length};
 ghost use Rattle.std.specs.List.{list_any};
-ghost use Rattle.std.specs.Option.{option_map};
 ghost use Rattle.mtp_codes.specs.declared.command.Command.{Command as command_type};
 ghost use Rattle.pol_policy.specs.Allowing.{lists, same_command};
 ghost use Rattle.pol_policy.specs.Places.{IsPlacesOf};

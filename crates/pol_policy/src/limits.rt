@@ -16,6 +16,6 @@ pub const MOST_LISTED: usize = 64;
 pub const MOST_COMMANDS: usize = 10;
 
 /// The most items of a list whose places a set can keep: those of a policy's groups, and of its rules.
-pub(crate) const MOST_PLACES: usize = 256;
+pub const MOST_PLACES: usize = 256;
 
 const _: () = prove!(MOST_GROUPS <= MOST_PLACES && MOST_RULES <= MOST_PLACES);

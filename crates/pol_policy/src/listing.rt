@@ -5,34 +5,39 @@ ghost use Rattle.mtp_codes.specs.Names.{is_among, same_name};
 ghost use Rattle.pol_policy.specs.Allowing.{lists};
 ghost use Rattle.pol_policy.specs.Names.{name_has};
 ghost use Rattle.pol_policy.specs.Places.{passes_at};
-ghost use Rattle.pol_policy.specs.Policies.{PlainRule, plain_rule};
+ghost use Rattle.pol_policy.specs.Policies.{plain_rule};
 ghost use Rattle.pol_policy.specs.declared.limits.TheConstants.{MOST_PLACES};
 
 use crate::name_index::NameIndex;
 use crate::parts::PolicyRule;
+use crate::rule::Rule;
 use mtp_codes::Name;
 use std::alloc::{AllocError, Global};
+use std::marker::PhantomData;
 
 /// One of the lists of names of a rule.
 pub(crate) trait NameList {
-    ghost names: { PlainRule → Option (List (List ℕ)) };
+    type Rule;
+
+    ghost names: { Self.Rule → Option (List (List ℕ)) };
 
     /// The list, if the rule has it.
-    fn of(rule: &PolicyRule) -> Option<&[Name]>
-        ensures { option_map (λ list. list.now) result ≡ names (plain_rule rule.now) };
+    fn of(rule: &Self::Rule) -> Option<&[Name]>
+        ensures { option_map (λ list. list.now) result ≡ names rule.now };
 }
 
 /// The people of a rule.
-pub(crate) struct Who;
+pub(crate) struct Who<R> {
+    of: PhantomData<R>,
+}
 
-impl NameList for Who {
-    ghost names = { λ rule. rule.who };
+impl<R: Rule> NameList for Who<R> {
+    type Rule = R;
 
-    fn of(rule: &PolicyRule) -> Option<&[Name]> {
-        match &rule.who {
-            Some(list) => Some(list.as_slice()),
-            None => None,
-        }
+    ghost names = { λ rule. R.people (R.plain rule) };
+
+    fn of(rule: &R) -> Option<&[Name]> {
+        rule.who()
     }
 }
 
@@ -40,7 +45,9 @@ impl NameList for Who {
 pub(crate) struct Tags;
 
 impl NameList for Tags {
-    ghost names = { λ rule. rule.tags };
+    type Rule = PolicyRule;
+
+    ghost names = { λ rule. (plain_rule rule).tags };
 
     fn of(rule: &PolicyRule) -> Option<&[Name]> {
         match &rule.tags {
@@ -54,7 +61,9 @@ impl NameList for Tags {
 pub(crate) struct Services;
 
 impl NameList for Services {
-    ghost names = { λ rule. rule.services };
+    type Rule = PolicyRule;
+
+    ghost names = { λ rule. (plain_rule rule).services };
 
     fn of(rule: &PolicyRule) -> Option<&[Name]> {
         match &rule.services {
@@ -96,11 +105,11 @@ fn add_listed(index: &mut NameIndex, names: Option<&[Name]>, place: usize) -> Re
 #[tactic(auto, using(crate::proofs::Passing::passes_more))]
 pub(crate) fn index_of<L: NameList>(
     alloc: Global,
-    rules: &[PolicyRule],
+    rules: &[L::Rule],
 ) -> Result<NameIndex, AllocError>
     requires { length rules.now ≤ MOST_PLACES }
     ensures { IfOk result (λ index. (name : List ℕ) (place : ℕ) → name_has index name place
-        ≡ passes_at (λ rule. lists same_name (L.names (plain_rule rule)) name) rules.now place) }
+        ≡ passes_at (λ rule. lists same_name (L.names rule) name) rules.now place) }
 {
     let mut index = NameIndex::new(alloc);
     for (place, rule) in rules.iter().enumerate() {

@@ -7,7 +7,7 @@ use crate::limits::MOST_PLACES;
 
 /// A set of places from 0 to 255.
 #[derive(Clone, Copy)]
-pub(crate) struct PlaceSet {
+pub struct PlaceSet {
     words: [u64; 4],
 }
 

@@ -6,7 +6,7 @@ ghost use Rattle.pol_policy.specs.declared.limits.TheConstants.{MOST_PLACES};
 use crate::place_set::PlaceSet;
 
 /// A test of the items of a list.
-pub(crate) trait Test {
+pub trait Test {
     type Item;
 
     ghost test: { Self → Self.Item → Bool };
@@ -18,7 +18,7 @@ pub(crate) trait Test {
 
 /// The places of the items that pass.
 #[tactic(auto, using(crate::proofs::Passing::passes_more))]
-pub(crate) fn places_where<T: Test>(test: &T, items: &[T::Item]) -> PlaceSet
+pub fn places_where<T: Test>(test: &T, items: &[T::Item]) -> PlaceSet
     requires { length items.now ≤ MOST_PLACES }
     ensures { IsPlacesOf (T.test test.now) items.now result }
 {

@@ -1,7 +1,7 @@
 //! Which groups lead to which.
-ghost use Rattle.std.specs.Prelude.{◌≡◌, ◌<◌, ◌≤◌, ◌&&◌, ◌||◌, ℕ, List, [], length, IfOk, slice_index_or};
+ghost use Rattle.std.specs.Prelude.{◌≡◌, ◌<◌, ◌≤◌, ◌&&◌, ◌||◌, ℕ, [], length, IfOk, slice_index_or};
 ghost use Rattle.mtp_codes.specs.Names.{is_among};
-ghost use Rattle.pol_policy.specs.Places.{has, passes_at};
+ghost use Rattle.pol_policy.specs.Places.{has};
 ghost use Rattle.pol_policy.specs.Tables.{IsReach, is_next_group};
 ghost use Rattle.pol_policy.specs.declared.place_set.PlaceSet.{PlaceSet as place_set_type};
 ghost use Rattle.pol_policy.specs.declared.limits.TheConstants.{MOST_PLACES};

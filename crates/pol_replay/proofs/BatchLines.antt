@@ -61,6 +61,10 @@ up_to_part held between held' line rest all so_far some =
 pub some_end : 0 < length end_text
 some_end = let feed : List ℕ = 10 ∷ [] in rw (length-append (compact_text end_data) feed) (omega arith)
 
+-- nor is what closes an output
+pub some_closing : (history : History) → 0 < length (closing_text history)
+some_closing history = let end = some_end in rw (length-append (batches_text history) end_text) (omega (arith, end))
+
 -- the text of the first of these from a place on, and that of those behind it
 pub cut_lines : {T : Type 0} (text : T → List ℕ) (items : List T) (i : ℕ) (item : T) → i < length items →
     item ≡ get_or items i item →
@@ -71,37 +75,27 @@ cut_lines text items i item inside same =
     (rw (drop-cons items i item inside, ← same) refl)
 
 -- the lines of the batches were not written whole
-pub broken_before : (held held' : Option (List ℕ)) (history : History) → WritesSome held held' (batches_text history) →
-    WritesPart held held' (closing_text history)
-broken_before held held' history some = record {
+pub broken_before : (held held' : Option (List ℕ)) (lines last : List ℕ) → 0 < length last →
+    WritesSome held held' lines → WritesPart held held' (lines ++ last)
+broken_before held held' lines last long some = record {
   some = record {
     written = some.written;
-    more = some.more ++ end_text;
+    more = some.more ++ last;
     appended = some.appended;
-    front = sym (append_assoc some.written some.more end_text) ∙ ap (λ text. text ++ end_text) some.front;
+    front = sym (append_assoc some.written some.more last) ∙ ap (λ text. text ++ last) some.front;
   };
-  proper = let end = some_end in rw (length-append some.more end_text) (omega arith);
+  proper = rw (length-append some.more last) (omega (arith, long));
 }
 
--- they were, and the end line was not begun
-pub broken_between : (held held' : Option (List ℕ)) (history : History) → Appends held held' (batches_text history) →
-    WritesPart held held' (closing_text history)
-broken_between held held' history appended = record {
-  some = record { written = batches_text history; more = end_text; appended = appended; front = refl };
-  proper = some_end;
-}
-
--- or not written whole
-pub broken_at_end : (held between held' : Option (List ℕ)) (history : History) (line : List ℕ)
-    → Appends held between (batches_text history) → line ≡ end_text → WritesPart between held' line
-    → WritesPart held held' (closing_text history)
-broken_at_end held between held' history line appended is part = record {
+-- they were, and the last line was not begun, or not written whole
+pub broken_at_end : (held between held' : Option (List ℕ)) (lines last : List ℕ) → Appends held between lines →
+    WritesPart between held' last → WritesPart held held' (lines ++ last)
+broken_at_end held between held' lines last appended part = record {
   some = record {
-    written = batches_text history ++ part.some.written;
+    written = lines ++ part.some.written;
     more = part.some.more;
-    appended = Appends_trans held between held' (batches_text history) part.some.written appended part.some.appended;
-    front = append_assoc (batches_text history) part.some.written part.some.more
-        ∙ ap (λ text. batches_text history ++ text) (part.some.front ∙ is);
+    appended = Appends_trans held between held' lines part.some.written appended part.some.appended;
+    front = append_assoc lines part.some.written part.some.more ∙ ap (λ text. lines ++ text) part.some.front;
   };
   proper = part.proper;
 }

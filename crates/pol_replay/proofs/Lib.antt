@@ -1,3 +1,4 @@
 pub mod Spoken
+pub mod Replied
 pub mod BatchLines
 pub mod Replaying

@@ -11,10 +11,8 @@ use Rattle.pol_record.specs.Lines.{closing_text}
 use Rattle.pol_history.specs.Runs.{entry_of, recorded, history_after}
 use Rattle.pol_record.specs.Texts.{answer_text, fault_text}
 use Rattle.pol_jobs.specs.LineWork.{replies, after_all, line_met, output_by}
-use Rattle.pol_replay.specs.declared.meaning.LineMeaning.{LineMeaning}
-use Rattle.pol_replay.specs.declared.meaning.LineMeaning.TheVariants.{Nothing, Fault, Said}
 use Rattle.pol_replay.specs.Replay.{replay_work, replayed}
-use Rattle.pol_replay.specs.Meanings.{meaning_met, reply_text, after_meaning}
+use Rattle.pol_replay.specs.Meanings.{LineMeaning, after_meaning, at_fault, meaning_met, nothing, reply_text, says}
 use Rattle.pol_replay.proofs.Spoken.{in_journal, met_means}
 
 -- the replies to lines are the texts of their rows
@@ -30,9 +28,9 @@ replies_rows history (piece ∷ parts) =
         reply_text history meaning ++ replies replay_work (after_meaning history meaning) parts
         ≡ answered_texts
         (answered_lines_after history (as_input_line piece (in_journal meaning) ∷ map input_line_of parts))
-    by_meaning Nothing rest = rest history
-    by_meaning (Fault fault) rest = ap (λ text. fault_text fault ++ text) (rest history)
-    by_meaning (Said event) rest =
+    by_meaning nothing rest = rest history
+    by_meaning (at_fault fault) rest = ap (λ text. fault_text fault ++ text) (rest history)
+    by_meaning (says event) rest =
         ap (λ text. answer_text (answer_of history event) ++ text) (rest (recorded (entry_of history event) history))
 
 -- what the replay knows after lines is the history of their events
@@ -47,9 +45,9 @@ after_rows history (piece ∷ parts) =
         ≡ history_after later (events_in (map input_line_of parts))) →
         after_all replay_work (after_meaning history meaning) parts
         ≡ history_after history (events_in (as_input_line piece (in_journal meaning) ∷ map input_line_of parts))
-    by_meaning Nothing rest = rest history
-    by_meaning (Fault fault) rest = rest history
-    by_meaning (Said event) rest = rest (recorded (entry_of history event) history)
+    by_meaning nothing rest = rest history
+    by_meaning (at_fault fault) rest = rest history
+    by_meaning (says event) rest = rest (recorded (entry_of history event) history)
 
 -- the output of a replay that begins with no history is the defined one
 pub replay_output : output_by replay_work [] ≡ replayed

@@ -1,5 +1,5 @@
 -- What a line says, by how it was read and met.
-use Rattle.std.proofs.Common.{ℕ, ◌≡◌, ◌∙◌, List, Bool, length, true, false, ap, refl, if◌then◌else◌}
+use Rattle.std.proofs.Common.{ℕ, ◌≡◌, ◌∙◌, List, Bool, IsTrue, length, not, true, false, ap, refl, if◌then◌else◌}
 use Rattle.std.specs.Prelude.{Ok, Err, Result, Some, None, nat_lt}
 use Rattle.std.specs.List.{list_all}
 use Rattle.pol_io.specs.declared.limits.TheConstants.{LONGEST_LINE}
@@ -10,25 +10,34 @@ use Rattle.event_json.specs.Lines.{event_of, is_blank_byte}
 use Rattle.event_json.specs.declared.fault.LineFault.{LineFault}
 use Rattle.event_json.specs.declared.fault.LineFault.TheVariants.{TooLong}
 use Rattle.pol_record.specs.Lines as lines
-use Rattle.pol_replay.specs.declared.meaning.LineMeaning.{LineMeaning}
-use Rattle.pol_replay.specs.declared.meaning.LineMeaning.TheVariants.{Nothing, Fault, Said}
-use Rattle.pol_replay.specs.Meanings.{meaning_from, meaning_met}
+use Rattle.pol_replay.specs.Meanings.{LineMeaning, at_fault, is_some_line, meaning_from, meaning_met, nothing}
+use Rattle.pol_replay.specs.Meanings.{says}
 
--- a line of blanks says nothing
-pub says_nothing : {P : Type 0} (said_of : List ℕ → Result P LineFault) (line : List ℕ) →
-    list_all is_blank_byte line ≡ true → Nothing ≡ meaning_met said_of (Some line)
-says_nothing said_of line blank = rw blank refl
+-- a line that isn't blank says what its form gives
+says_some : {P : Type 0} (said_of : List ℕ → Result P LineFault) (line : List ℕ) →
+    IsTrue (is_some_line (Some line)) → meaning_met said_of (Some line) ≡ meaning_from (said_of line)
+says_some said_of line some = by_blank (list_all is_blank_byte line) some
+  where
+    by_blank : (blank : Bool) → IsTrue (not blank) →
+        (if blank then nothing else meaning_from (said_of line)) ≡ meaning_from (said_of line)
+    by_blank true some = cc
+    by_blank false some = refl
 
--- another one says what its form gives
-pub says_some : {P : Type 0} (said_of : List ℕ → Result P LineFault) (line : List ℕ) →
-    list_all is_blank_byte line ≡ false → meaning_from (said_of line) ≡ meaning_met said_of (Some line)
-says_some said_of line some = rw some refl
+-- so it says this
+pub says_what : {P : Type 0} (said_of : List ℕ → Result P LineFault) (line : List ℕ) (said : P) →
+    IsTrue (is_some_line (Some line)) → said_of line ≡ Ok said → meaning_met said_of (Some line) ≡ says said
+says_what said_of line said some is = says_some said_of line some ∙ ap meaning_from is
+
+-- or it has this fault
+pub has_fault : {P : Type 0} (said_of : List ℕ → Result P LineFault) (line : List ℕ) (fault : LineFault) →
+    IsTrue (is_some_line (Some line)) → said_of line ≡ Err fault → meaning_met said_of (Some line) ≡ at_fault fault
+has_fault said_of line fault some is = says_some said_of line some ∙ ap meaning_from is
 
 -- what a line of a journal says, as the definition of the output has it
 abbrev pub in_journal : LineMeaning PlainEvent → lines.LineMeaning
-in_journal Nothing = lines.nothing
-in_journal (Fault fault) = lines.a_fault fault
-in_journal (Said event) = lines.an_event event
+in_journal nothing = lines.nothing
+in_journal (at_fault fault) = lines.a_fault fault
+in_journal (says event) = lines.an_event event
 
 -- the same, of what is said or at fault
 in_journal_from : (said : Result PlainEvent LineFault) → in_journal (meaning_from said) ≡ lines.meaning_from said
@@ -42,7 +51,7 @@ met_means line =
     ap (λ line. in_journal (meaning_met event_of line)) (met_by_length line)
     ∙ by_length (nat_lt LONGEST_LINE (length line))
   where
-    by_blank : (blank : Bool) → in_journal (if blank then Nothing else meaning_from (event_of line))
+    by_blank : (blank : Bool) → in_journal (if blank then nothing else meaning_from (event_of line))
         ≡ (if blank then lines.nothing else lines.meaning_from (event_of line))
     by_blank true = refl
     by_blank false = in_journal_from (event_of line)

@@ -1,5 +1,5 @@
 //! What ends an output: the line of each batch in the order of the starts, and the end line.
-ghost use Rattle.std.specs.Prelude.{OnOk, OnErr};
+ghost use Rattle.std.specs.Prelude.{◌<◌, ◌++◌, length, OnOk, OnErr};
 ghost use Rattle.std.specs.Io.KnownBytes.{Appends};
 ghost use Rattle.pol_events.specs.Events.{plain_history};
 ghost use Rattle.pol_history.specs.Runs.{IsOrderly};
@@ -63,6 +63,25 @@ fn put_batches<K: Sink>(alloc: Global, history: &[Entry], sink: &mut K) -> Resul
     put_each(alloc, &gathered, &gathered.started, sink)
 }
 
+/// Writes the line of each batch of the history, and behind them a last line.
+pub fn close_with<K: Sink>(
+    alloc: Global,
+    history: &[Entry],
+    last: &[u8],
+    sink: &mut K,
+) -> Result<(), PutFault>
+    requires orderly { IsOrderly (plain_history history.now) }
+    requires some { 0 < length last.now }
+    ensures text { OnOk result (Appends (K.held sink.old) (K.held sink.new)
+        (batches_text (plain_history history.now) ++ last.now)) }
+    ensures part { OnErr result (WritesPart (K.held sink.old) (K.held sink.new)
+        (batches_text (plain_history history.now) ++ last.now)) }
+    ensures cause { HasCauseOf PutFault.Write (K.faults sink.old) (K.faults sink.new) result }
+{
+    put_batches(alloc, history, sink)?;
+    put(sink, last)
+}
+
 /// Writes the line of each batch of the history, and the end line.
 pub fn close<K: Sink>(alloc: Global, history: &[Entry], sink: &mut K) -> Result<(), PutFault>
     requires { IsOrderly (plain_history history.now) }
@@ -72,7 +91,6 @@ pub fn close<K: Sink>(alloc: Global, history: &[Entry], sink: &mut K) -> Result<
         (closing_text (plain_history history.now))) }
     ensures cause { HasCauseOf PutFault.Write (K.faults sink.old) (K.faults sink.new) result }
 {
-    put_batches(alloc, history, sink)?;
     let line = end_line(alloc)?;
-    put(sink, &line)
+    close_with(alloc, history, &line, sink)
 }

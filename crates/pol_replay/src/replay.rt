@@ -6,10 +6,10 @@ ghost use Rattle.pol_history.specs.Answers.{answer_of};
 ghost use Rattle.pol_history.specs.Runs.{entry_of, recorded};
 ghost use Rattle.pol_record.specs.Texts.{answer_text};
 ghost use Rattle.pol_core.specs.Plants.{plant_history};
-ghost use Rattle.pol_replay.specs.Meanings.{IsOrderly, plain_meaning, reply_text, after_meaning};
 
+use crate::answering::{Answering, answer_line};
 use crate::closing::close;
-use crate::meaning::{LineMeaning, read_meaning};
+use event_json::LineFault;
 use pol_core::Plant;
 use pol_events::Event;
 use pol_io::Sink;
@@ -21,6 +21,7 @@ use std::convert::Infallible;
 
 /// Puts the line of the plant's answer to an event behind what a buffer holds. The event is recorded, unless the
 /// history is full.
+#[inline(always)]
 pub fn answer_event(
     alloc: Global,
     plant: &mut Plant,
@@ -36,27 +37,6 @@ pub fn answer_event(
     match plant.apply(event) {
         Ok(answer) => put_answer_line(alloc, out, &answer),
         Err((_event, error)) => Err(error),
-    }
-}
-
-// Puts the line that answers what a line says behind what a buffer holds; nothing, where it says nothing.
-#[inline(always)]
-fn answer(
-    alloc: Global,
-    plant: &mut Plant,
-    meaning: LineMeaning<Event>,
-    out: &mut Vec<u8>,
-) -> Result<(), AllocError>
-    requires { IsOrderly meaning }
-    ensures line { OnOk result (out.new.items
-        ≡ out.old.items ++ reply_text (plant_history plant.old) (plain_meaning meaning)) }
-    ensures history { OnOk result (
-        plant_history plant.new ≡ after_meaning (plant_history plant.old) (plain_meaning meaning)) }
-{
-    match meaning {
-        LineMeaning::Nothing => Ok(()),
-        LineMeaning::Fault(fault) => put_fault_line(alloc, out, &fault),
-        LineMeaning::Said(event) => answer_event(alloc, plant, event, out),
     }
 }
 
@@ -77,6 +57,43 @@ impl Replay {
             plant: Plant::new(alloc),
         }
     }
+}
+
+impl Answering<JournalLines> for Replay {
+    type Halt = AllocError;
+
+    ghost use Rattle.std.specs.Prelude.{◌≡◌, ◌++◌, ⊤};
+    ghost use Rattle.std.proofs.Common.{append-nil, refl, sym};
+    ghost use Rattle.pol_core.specs.Plants.{plant_history};
+    ghost use Rattle.pol_replay.specs.Replay.{replay_work};
+
+    ghost Answers = { λ before now held holds line.
+        (holds ≡ held ++ replay_work.reply (plant_history before.plant) line)
+        × (plant_history now.plant ≡ replay_work.after (plant_history before.plant) line) };
+
+    ghost Halts = { λ _ _ _ _. ⊤ };
+
+    #[inline(always)]
+    #[tactic(auto, using(crate::proofs::Replied::to_event))]
+    fn said(&mut self, _line: &[u8], event: Event, out: &mut Vec<u8>) -> Result<(), AllocError> {
+        answer_event(self.alloc, &mut self.plant, event, out)
+    }
+
+    #[tactic(auto, using(crate::proofs::Replied::to_fault))]
+    fn fault(
+        &mut self,
+        _line: InputLine<'_>,
+        fault: LineFault,
+        out: &mut Vec<u8>,
+    ) -> Result<(), AllocError> {
+        put_fault_line(self.alloc, out, &fault)
+    }
+
+    fn no_memory(&self) -> AllocError {
+        AllocError
+    }
+
+    ghost answers_blank = { λ replay held line blank. (rw blank (sym (append-nil held)), rw blank refl) };
 }
 
 impl LineJob for Replay {
@@ -114,8 +131,7 @@ impl LineJob for Replay {
         line: InputLine<'_>,
         out: &mut Vec<u8>,
     ) -> Result<(), Stop<Infallible, Infallible>> {
-        let meaning = read_meaning::<JournalLines>(self.alloc, line)?;
-        answer(self.alloc, &mut self.plant, meaning, out)?;
+        answer_line::<JournalLines, _>(self.alloc, line, self, out)?;
         Ok(())
     }
 

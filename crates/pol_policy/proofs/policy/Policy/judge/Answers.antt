@@ -1,4 +1,4 @@
-use Rattle.std.proofs.Common.{◌∙◌, not, sym, subst, refl}
+use Rattle.std.proofs.Common.{◌∙◌, sym, subst}
 use Rattle.pol_policy.specs.Allowing.{Judges, Request, request_of}
 use Rattle.pol_policy.specs.Deciding.{matches, verdict_of}
 use Rattle.pol_policy.specs.PlainPolicy.{plain_policy}
@@ -16,13 +16,8 @@ returns-clause-value c =
     let matching : IsPlacesOf (matches policy.groups request) policy.rules c.matching-matching.result =
     λ place. c.matching-matching.ensures place ∙ table_matches policy c.args.self.now.table request
     c.args.self.now.tabled place in
-    let denying = rw c.as_slice-rules.ensures.value at (c.first_rule-denying.ensures) in
-    let allowing = rw c.as_slice-rules.ensures.value at (c.first_rule-allowing.ensures) in
-    let denied = denying (matches policy.groups request) (λ rule. not rule.allow) matching
-    c.args.self.now.tabled.denying in
-    let allowed = allowing (matches policy.groups request) (λ rule. rule.allow) matching
-    c.args.self.now.tabled.allowing in
-    c.verdict_by.ensures ∙ rw (denied, allowed) refl
+    let decided = rw c.deref.ensures.value at c.verdict.ensures in
+    decided policy.groups (matches policy.groups request) c.args.self.now.tabled.people matching
 
 pub returns-clause-judged : goal.returns-clause-judged
 returns-clause-judged c =
