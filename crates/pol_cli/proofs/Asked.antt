@@ -7,27 +7,26 @@ use Rattle.pol_arguments.specs.declared.LiveTask.{LiveTask}
 use Rattle.pol_arguments.specs.declared.SerialTask.{SerialTask}
 use Rattle.pol_arguments.specs.declared.SerialTask.TheVariants.{Replay, Demo, Audit, Find, Guard, Migrate}
 use Rattle.pol_arguments.specs.declared.Task.{Task}
-use Rattle.pol_arguments.specs.declared.Task.TheVariants.{Serial, Live}
+use Rattle.pol_arguments.specs.declared.Task.TheVariants.{Serial, Live, Operate}
 use Rattle.pol_arguments.proofs.Meaning.{one_task}
 use Rattle.pol_jobs.specs.LineWork.{Output}
 use Rattle.pol_jobs.specs.declared.fault.JobFault.{JobFault}
 use Rattle.pol_jobs.specs.declared.fault.JobFault.TheVariants as job
 use Rattle.pol_keep.specs.declared.fault.KeepFault.{KeepFault}
 use Rattle.pol_keep.specs.declared.fault.KeepFault.TheVariants as kept
-use Rattle.pol_cli.specs.Keeping.{IsOfDisk}
 use Rattle.pol_cli.specs.Statuses.{no_refusal, refused_as, status_of, status_of_kept}
-use Rattle.pol_cli.specs.Tasks.{AskForKept, GoesByWords, JobEnds, PlantEnds, SerialEnds, TaskEnds}
+use Rattle.pol_cli.specs.Tasks.{AskForDiskOf, AskForKept, GoesByWords, JobEnds, PlantEnds, SerialEnds, TaskEnds}
 use Rattle.pol_cli.specs.Worked.{Disks, Edges}
 use Rattle.pol_cli.specs.declared.status.Wanted.TheVariants.{Site, Policy}
 use Rattle.pol_cli.specs.declared.status.Status.{Status}
 use Rattle.pol_cli.specs.declared.status.Status.TheVariants as status
 
 -- what holds of a task that the words mean holds of each that they mean
-pub ends_as : {D : Type 0} (words : List (List ℕ)) (one : Task) (source sink : Edges) (disk : Disks D)
-    (status : Status) → Means words one → TaskEnds one source sink disk status → (task : Task) → Means words task →
-    TaskEnds task source sink disk status
-ends_as words one source sink disk status means ends task other =
-    subst (λ task. TaskEnds task source sink disk status) (one_task words one task means other) ends
+pub ends_as : {D L : Type 0} (words : List (List ℕ)) (one : Task) (source sink : Edges) (disk : Disks D)
+    (ledger : Disks L) (status : Status) → Means words one → TaskEnds one source sink disk ledger status →
+    (task : Task) → Means words task → TaskEnds task source sink disk ledger status
+ends_as words one source sink disk ledger status means ends task other =
+    subst (λ task. TaskEnds task source sink disk ledger status) (one_task words one task means other) ends
 
 -- ---- statuses
 
@@ -36,20 +35,22 @@ abbrev IsOfNoJob : Status → Type 0
 IsOfNoJob status.BadWords = Unit {0}
 IsOfNoJob status.DiskFault = Unit {0}
 IsOfNoJob (status.NotAStore place) = Unit {0}
+IsOfNoJob (status.NotALedger place) = Unit {0}
 IsOfNoJob _ = ⊥
 
--- the statuses of the disk are such
-disk_no_jobs : (now : Status) → IsOfDisk now → IsOfNoJob now
-disk_no_jobs status.Good of_disk = of_disk
-disk_no_jobs status.BadWords of_disk = tt
-disk_no_jobs status.ReadFault of_disk = of_disk
-disk_no_jobs status.WriteFault of_disk = of_disk
-disk_no_jobs status.OutOfMemory of_disk = of_disk
-disk_no_jobs status.TooMuchInput of_disk = of_disk
-disk_no_jobs (status.BadSite path fault) of_disk = of_disk
-disk_no_jobs (status.BadPolicy path fault) of_disk = of_disk
-disk_no_jobs status.DiskFault of_disk = tt
-disk_no_jobs (status.NotAStore place) of_disk = tt
+-- a status of a job over lines tells of no disk
+of_no_disk : (words : List (List ℕ)) (now : Status) → (IsOfNoJob now → ⊥) → AskForDiskOf words now
+of_no_disk words status.Good never = tt
+of_no_disk words status.BadWords never = tt
+of_no_disk words status.ReadFault never = tt
+of_no_disk words status.WriteFault never = tt
+of_no_disk words status.OutOfMemory never = tt
+of_no_disk words status.TooMuchInput never = tt
+of_no_disk words (status.BadSite path fault) never = tt
+of_no_disk words (status.BadPolicy path fault) never = tt
+of_no_disk words status.DiskFault never = absurd (never tt)
+of_no_disk words (status.NotAStore place) never = absurd (never tt)
+of_no_disk words (status.NotALedger place) never = absurd (never tt)
 
 -- nothing that can't come is one of them
 never_refused : (reason : Infallible) → IsOfNoJob (no_refusal reason) → ⊥
@@ -98,11 +99,22 @@ no_bad_words (Err kept.TooMuch) is = cc
 no_bad_words (Err kept.Disk) is = cc
 no_bad_words (Err (kept.NotAStore place)) is = cc
 
+-- where it tells of a disk, it is asked for
+of_kept : (words : List (List ℕ)) → AskForKept words → (result : Result (Unit {0}) KeepFault) →
+    AskForDiskOf words (status_of_kept result)
+of_kept words asks (Ok done) = tt
+of_kept words asks (Err kept.Read) = tt
+of_kept words asks (Err kept.Write) = tt
+of_kept words asks (Err kept.Memory) = tt
+of_kept words asks (Err kept.TooMuch) = tt
+of_kept words asks (Err kept.Disk) = inl asks
+of_kept words asks (Err (kept.NotAStore place)) = asks
+
 -- ---- what the words have to do with the status
 
 module _ (words : List (List ℕ)) (source sink : Edges) (now : Status) where
   -- where they mean a task
-  meant_by : (task : Task) → Means words task → (now ≡ status.BadWords → ⊥) → (IsOfDisk now → AskForKept words) →
+  meant_by : (task : Task) → Means words task → (now ≡ status.BadWords → ⊥) → AskForDiskOf words now →
       GoesByWords words source sink now
   meant_by task means not_bad of_disk = record {
     meant = λ other enough. (task, means);
@@ -114,8 +126,7 @@ module _ (words : List (List ℕ)) (source sink : Edges) (now : Status) where
   -- one that doesn't look at the disk
   by_job : (task : Task) → Means words task → (IsOfNoJob now → ⊥) → GoesByWords words source sink now
   by_job task means never =
-      meant_by task means (λ bad. never (subst IsOfNoJob (sym bad) tt))
-      (λ of_disk. absurd (never (disk_no_jobs now of_disk)))
+      meant_by task means (λ bad. never (subst IsOfNoJob (sym bad) tt)) (of_no_disk words now never)
 
   pub by_serial : (task : SerialTask) → Means words (Serial task) → SerialEnds task source sink now →
       GoesByWords words source sink now
@@ -129,7 +140,16 @@ module _ (words : List (List ℕ)) (source sink : Edges) (now : Status) where
   pub by_kept : (task : Task) → Means words task → AskForKept words → (result : Result (Unit {0}) KeepFault) →
       now ≡ status_of_kept result → GoesByWords words source sink now
   by_kept task means asks result told =
-      meant_by task means (λ bad. no_bad_words result (sym told ∙ bad)) (λ of_disk. asks)
+      meant_by task means (λ bad. no_bad_words result (sym told ∙ bad))
+      (subst (AskForDiskOf words) (sym told) (of_kept words asks result))
+
+  -- the one on the operated plant
+  pub by_operated : Means words Operate → now ≡ status.OutOfMemory → GoesByWords words source sink now
+  by_operated means told =
+      meant_by Operate means (λ bad. differ (sym told ∙ bad)) (subst (AskForDiskOf words) (sym told) tt)
+    where
+      differ : status.OutOfMemory ≡ status.BadWords → ⊥
+      differ is = cc
 
 -- where they mean none
 pub by_none : (words : List (List ℕ)) (source sink : Edges) → ((task : Task) → Means words task → ⊥) →
@@ -138,7 +158,7 @@ by_none words source sink none source_same sink_same = record {
   meant = λ good memory. absurd (good refl);
   bad_words = λ bad. none;
   refused = λ none. (inl refl, source_same, sink_same);
-  of_disk = λ of_disk. absurd of_disk;
+  of_disk = tt;
 }
 
 -- where there was no memory to read them
@@ -148,5 +168,5 @@ by_no_memory words source sink source_same sink_same = record {
   meant = λ good memory. absurd (memory refl);
   bad_words = λ bad task means. cc;
   refused = λ none. (inr refl, source_same, sink_same);
-  of_disk = λ of_disk. absurd of_disk;
+  of_disk = tt;
 }

@@ -7,7 +7,7 @@ use Rattle.mtp_json.specs.declared.path.PathPart.{PathPart}
 use Rattle.pol_arguments.specs.declared.SerialTask.{SerialTask}
 use Rattle.pol_arguments.specs.declared.SerialTask.TheVariants.{Replay, Demo, Audit, Find, Guard, Migrate}
 use Rattle.pol_arguments.specs.declared.Task.{Task}
-use Rattle.pol_arguments.specs.declared.Task.TheVariants.{Serial, Live, Keep, Export}
+use Rattle.pol_arguments.specs.declared.Task.TheVariants.{Serial, Live, Keep, Export, Operate}
 use Rattle.pol_disk.proofs.Moments.{started}
 use Rattle.pol_events.specs.Events.{PlainEvent}
 use Rattle.pol_io.specs.Edge.{Edge}
@@ -142,14 +142,18 @@ module _ (source sink : Edge) (SameSource SameSink : Type 0) (source_same : Same
     }
 
     -- any task
-    pub unbegun_ends : JobLaws → (task : Task) →
-        TaskEnds task (rested source SameSource) (rested sink SameSink) (rested_disk tells disk) status.OutOfMemory
+    pub unbegun_ends : {L : Type 0} (told : Telling L) (ledger : L)
+        (only_then : (image : List ℕ) → told.left_since ledger (told.moment ledger) image → told.images ledger image)
+        (laws : JobLaws) (task : Task) →
+        TaskEnds task (rested source SameSource) (rested sink SameSink) (rested_disk tells disk)
+        (rested_disk told ledger) status.OutOfMemory
     unfolding no_memory_ends job_ends
-    unbegun_ends laws (Serial task) = serial_unbegun laws task
-    unbegun_ends laws (Live task) = record {
+    unbegun_ends told ledger only_then laws (Serial task) = serial_unbegun laws task
+    unbegun_ends told ledger only_then laws (Live task) = record {
       job = no_memory_ends planted (refused_as Site) source SameSource;
       writes = inl (Keeps_refl sink.bytes);
       unbegun = λ good write memory. absurd (memory refl);
     }
-    unbegun_ends laws Keep = keeping_unbegun
-    unbegun_ends laws Export = export_unbegun
+    unbegun_ends told ledger only_then laws Keep = keeping_unbegun
+    unbegun_ends told ledger only_then laws Export = export_unbegun
+    unbegun_ends told ledger only_then laws Operate = record { unbegun = refl }

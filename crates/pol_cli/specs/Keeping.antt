@@ -5,7 +5,7 @@ use Rattle.pol_keep.specs.Leaving.{HoldsAll, HoldsOn, KeepsAllLines, KeepsLines}
 use Rattle.pol_store.specs.Stands.{StandsForNone}
 use Rattle.pol_cli.specs.Worked.{Disks, Edges}
 use Rattle.pol_cli.specs.declared.status.Status.{Status}
-use Rattle.pol_cli.specs.declared.status.Status.TheVariants.{Good, OutOfMemory, DiskFault, NotAStore}
+use Rattle.pol_cli.specs.declared.status.Status.TheVariants.{Good, OutOfMemory, NotAStore}
 
 -- From one state of the disk to another the events of an input were kept behind those that it read as, whatever a crash
 -- before might have left of it, and the sink took what it has now; and where all is good, those of all lines were.
@@ -33,9 +33,3 @@ abbrev pub BeginsOnStores : {D : Type 0} → Disks D → Status → Type 0
 BeginsOnStores disk status =
     (all later : List ℕ) → disk.tells.bytes disk.before ≡ Some all → disk.tells.bytes disk.after ≡ Some later →
     StandsForNone all → ¬ DiskFailed disk → IsNotBegun status
-
--- the status tells of the disk: it failed, or it is no store
-abbrev pub IsOfDisk : Status → Type 0
-IsOfDisk DiskFault = Unit {0}
-IsOfDisk (NotAStore place) = Unit {0}
-IsOfDisk _ = ⊥

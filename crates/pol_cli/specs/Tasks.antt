@@ -10,7 +10,7 @@ use Rattle.pol_arguments.specs.Words.{Means}
 use Rattle.pol_arguments.specs.declared.SerialTask.{SerialTask}
 use Rattle.pol_arguments.specs.declared.SerialTask.TheVariants.{Replay, Demo, Audit, Find, Guard, Migrate}
 use Rattle.pol_arguments.specs.declared.Task.{Task}
-use Rattle.pol_arguments.specs.declared.Task.TheVariants.{Serial, Live, Keep, Export}
+use Rattle.pol_arguments.specs.declared.Task.TheVariants.{Serial, Live, Keep, Export, Operate}
 use Rattle.pol_demo.specs.Summary.{demo_output}
 use Rattle.pol_jobs.specs.Ends.{Completes, Ends}
 use Rattle.pol_jobs.specs.LineWork.{Output, texts_of}
@@ -27,14 +27,14 @@ use Rattle.pol_migration.specs.Job.{migrating}
 use Rattle.pol_migration.specs.Migration.{MigrationKeepsOutputs}
 use Rattle.pol_replay.specs.Replay.{replayed}
 use Rattle.pol_store.specs.Opens.{IsNoStore}
-use Rattle.pol_cli.specs.Keeping.{BeginsOnStores, DiskFailed, HoldsEvents, IsOfDisk, KeepsInput}
+use Rattle.pol_cli.specs.Keeping.{BeginsOnStores, DiskFailed, HoldsEvents, KeepsInput}
 use Rattle.pol_cli.specs.SiteRuns.{RunWrites, planted}
 use Rattle.pol_cli.specs.Statuses.{no_refusal, refused_as, status_of, status_of_kept}
 use Rattle.pol_cli.specs.Worked.{Disks, Edges, no_source}
 use Rattle.pol_cli.specs.declared.status.Wanted.TheVariants.{Site, Policy}
 use Rattle.pol_cli.specs.declared.status.Status.{Status}
 use Rattle.pol_cli.specs.declared.status.Status.TheVariants.{Good, BadWords, WriteFault, OutOfMemory}
-use Rattle.pol_cli.specs.declared.status.Status.TheVariants.{BadPolicy, DiskFault, NotAStore}
+use Rattle.pol_cli.specs.declared.status.Status.TheVariants.{BadPolicy, DiskFault, NotAStore, NotALedger}
 
 -- the output of the demo of a seed: nothing for lines, and in all the summary of its journal
 abbrev pub demonstrated : ℕ → Output Infallible
@@ -135,6 +135,10 @@ pub record ExportEnds {D : Type 0} (source sink : Edges) (disk : Disks D) (statu
   -- the source isn't read
   pub unread : source.Untouched
 
+-- how a replay on an operated plant ended
+pub record OperatingEnds {D : Type 0} (source sink : Edges) (ledger : Disks D) (status : Status) : Type 0 where
+  pub unbegun : status ≡ OutOfMemory
+
 -- ---- how a task ended
 
 -- how a job of one thread ended
@@ -146,18 +150,27 @@ SerialEnds Find source sink status = FindEnds source sink status
 SerialEnds Guard source sink status = GuardEnds source sink status
 SerialEnds Migrate source sink status = MigrationEnds source sink status
 
--- how a task ended; the jobs on the kept plant alone look at the disk
-abbrev pub TaskEnds : {D : Type 0} → Task → Edges → Edges → Disks D → Status → Type 0
-TaskEnds (Serial task) source sink disk status = SerialEnds task source sink status
-TaskEnds (Live task) source sink disk status = PlantEnds source sink status
-TaskEnds Keep source sink disk status = KeepingEnds source sink disk status
-TaskEnds Export source sink disk status = ExportEnds source sink disk status
+-- how a task ended; the jobs on the kept plant alone look at the disk, the one on the operated plant at the ledger
+abbrev pub TaskEnds : {D L : Type 0} → Task → Edges → Edges → Disks D → Disks L → Status → Type 0
+TaskEnds (Serial task) source sink disk ledger status = SerialEnds task source sink status
+TaskEnds (Live task) source sink disk ledger status = PlantEnds source sink status
+TaskEnds Keep source sink disk ledger status = KeepingEnds source sink disk status
+TaskEnds Export source sink disk ledger status = ExportEnds source sink disk status
+TaskEnds Operate source sink disk ledger status = OperatingEnds source sink ledger status
 
 -- ---- what the words have to do with it
 
 -- the words ask for a job on the kept plant
 abbrev pub AskForKept : List (List ℕ) → Type 0
 AskForKept words = Means words Keep ⊎ Means words Export
+
+-- the words ask for a job that may end with this status: with 10 one on a kept or an operated plant, with 11 one on a
+-- kept plant, with 12 the one on an operated plant, and with another any
+abbrev pub AskForDiskOf : List (List ℕ) → Status → Type 0
+AskForDiskOf words DiskFault = AskForKept words ⊎ Means words Operate
+AskForDiskOf words (NotAStore place) = AskForKept words
+AskForDiskOf words (NotALedger place) = Means words Operate
+AskForDiskOf words _ = Unit {0}
 
 -- Which status comes where the words mean a task, and where they mean none.
 pub record GoesByWords (words : List (List ℕ)) (source sink : Edges) (status : Status) : Type 0 where
@@ -168,5 +181,5 @@ pub record GoesByWords (words : List (List ℕ)) (source sink : Edges) (status :
   -- where they mean none 2 comes, or 5 for want of memory, and source and sink are as they were
   pub refused : ((task : Task) → Means words task → ⊥) →
       ((status ≡ BadWords) ⊎ (status ≡ OutOfMemory)) × source.Untouched × sink.Untouched
-  -- 10 and 11 come only where they ask for a job on the kept plant
-  pub of_disk : IsOfDisk status → AskForKept words
+  -- 10, 11 and 12 come only where they ask for a job on the disk of which these tell
+  pub of_disk : AskForDiskOf words status

@@ -1,4 +1,4 @@
-//! The program over a runtime and a disk: its words, its source, its sink, its clock and its exit status.
+//! The program over a runtime and two disks: its words, its source, its sink, its clock and its exit status.
 use crate::program::{end, top};
 use crate::status::Status;
 use pol_disk::Disk;
@@ -31,11 +31,11 @@ fn unread(error: &io::Error) -> Status {
     }
 }
 
-// Does what the words ask for, with the runtime's input, output and clock, and with this disk.
-fn do_asked<R: Env + Input + Print + Clock + AllocGlobal + Threads + Wait + Sync, D: Disk + Drop>(
-    rt: &R,
-    disk: D,
-) -> Status {
+// Does what the words ask for, with the runtime's input, output and clock, and with this disk and this ledger.
+fn do_asked<R, D: Disk + Drop, L: Disk + Drop>(rt: &R, disk: D, ledger: L) -> Status
+where
+    R: Env + Input + Print + Clock + AllocGlobal + Threads + Wait + Sync,
+{
     let words = match words(rt) {
         Ok(words) => words,
         Err(error) => return unread(&error),
@@ -46,7 +46,7 @@ fn do_asked<R: Env + Input + Print + Clock + AllocGlobal + Threads + Wait + Sync
     let mut source = ReaderSource::new(rt.reader());
     let mut sink = WriterSink::new(out);
     let clock = SystemClock::new(rt);
-    let (status, _disk) = top(
+    let (status, _disk, _ledger) = top(
         rt,
         rt.alloc(),
         &words,
@@ -55,6 +55,7 @@ fn do_asked<R: Env + Input + Print + Clock + AllocGlobal + Threads + Wait + Sync
         clock,
         &OpenGate,
         disk,
+        ledger,
     );
     end(status, &mut sink)
 }
@@ -73,13 +74,14 @@ fn say<R: Eprint + AllocGlobal>(rt: &R, status: &Status) {
     };
 }
 
-/// The program: it does what its words ask for (`top`), keeps a plant on this disk where they ask for that, hands on
-/// what it wrote (`end`), says on standard error how it ended where not all is good, and ends with the status's number.
-pub fn run<R, D: Disk + Drop>(rt: &R, disk: D) -> ExitCode
+/// The program: it does what its words ask for (`top`), keeps a plant on this disk, or one that is operated on this
+/// ledger, where they ask for that, hands on what it wrote (`end`), says on standard error how it ended where not all is
+/// good, and ends with the status's number.
+pub fn run<R, D: Disk + Drop, L: Disk + Drop>(rt: &R, disk: D, ledger: L) -> ExitCode
 where
     R: Env + Input + Print + Eprint + Clock + AllocGlobal + Threads + Wait + Sync,
 {
-    let status = do_asked(rt, disk);
+    let status = do_asked(rt, disk, ledger);
     say(rt, &status);
     ExitCode::from(status.number())
 }

@@ -8,6 +8,7 @@ mod auditing;
 mod demo;
 mod exporting;
 mod keeping;
+mod operating;
 mod plant;
 mod site_text;
 
@@ -17,6 +18,7 @@ use auditing::Auditing;
 use demo::demonstrate;
 pub use exporting::export;
 pub use keeping::keep;
+pub use operating::operate;
 pub use plant::live;
 use pol_arguments::SerialTask;
 use pol_find::Finding;

@@ -14,6 +14,6 @@ mod program;
 mod status;
 
 pub use host::run;
-pub use jobs::{export, keep, live, serve};
+pub use jobs::{export, keep, live, operate, serve};
 pub use program::{end, top};
 pub use status::Status;

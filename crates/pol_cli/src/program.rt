@@ -3,12 +3,13 @@ ghost use Rattle.std.specs.Prelude.{◌≡◌, ℕ, List};
 ghost use Rattle.std.specs.Io.KnownBytes.{Keeps};
 ghost use Rattle.pol_arguments.specs.Words.{Means, texts_of};
 ghost use Rattle.pol_arguments.specs.declared.Task.{Task};
+ghost use Rattle.pol_arguments.specs.declared.Task.TheVariants.{Operate};
 ghost use Rattle.pol_cli.specs.Journal.{JournalTheorem, Laws};
 ghost use Rattle.pol_cli.specs.Statuses.{IsEnd};
 ghost use Rattle.pol_cli.specs.Tasks.{AskForKept, GoesByWords, TaskEnds};
 ghost use Rattle.pol_cli.specs.Worked.{disks, edges};
 
-use crate::jobs::{export, keep, live, serve};
+use crate::jobs::{export, keep, live, operate, serve};
 use crate::laws::laws_hold;
 use crate::status::Status;
 use pol_arguments::{Task, WordFault, read_words};
@@ -21,8 +22,17 @@ use std::thread::Threads;
 
 /// Does what the words ask for; the first word is the program's name. Words that ask for no task leave the source and
 /// the sink as they were. The runtime, the clock and the gate are for the plant alone, which may wait; all other
-/// jobs wait for nobody. The disk is for the jobs on the kept plant alone; it comes back.
-pub fn top<R: Threads + Wait + Sync, S: Source, K: Sink, C: Clock + Send, G: Gate, D: Disk>(
+/// jobs wait for nobody. The disk is for the jobs on the kept plant alone, and the ledger, another disk, for the one on
+/// the operated plant; both come back.
+pub fn top<
+    R: Threads + Wait + Sync,
+    S: Source,
+    K: Sink,
+    C: Clock + Send,
+    G: Gate,
+    D: Disk,
+    L: Disk,
+>(
     rt: &R,
     alloc: Global,
     words: &[String],
@@ -31,16 +41,20 @@ pub fn top<R: Threads + Wait + Sync, S: Source, K: Sink, C: Clock + Send, G: Gat
     clock: C,
     gate: &G,
     disk: D,
-) -> (Status, D)
+    ledger: L,
+) -> (Status, D, L)
     // The task that the words mean ended as its record says: what it wrote, why it ended, what holds of what it wrote.
     ensures ends { (task : Task) → Means (texts_of words.now) task
         → TaskEnds task (edges S.left S.faults source.old source.new) (edges K.held K.faults sink.old sink.new)
-        (disks D.bytes D.images D.moment D.left_since D.faults disk result.1) result.0 }
+        (disks D.bytes D.images D.moment D.left_since D.faults disk result.1)
+        (disks L.bytes L.images L.moment L.left_since L.faults ledger result.2) result.0 }
     // Which status comes where the words mean a task, and which where they mean none.
     ensures words { GoesByWords (texts_of words.now) (edges S.left S.faults source.old source.new)
         (edges K.held K.faults sink.old sink.new) result.0 }
     // Other tasks than those on the kept plant leave the disk as it was.
     ensures unkept { ¬ AskForKept (texts_of words.now) → result.1 ≡ disk }
+    // Other tasks than the one on the operated plant leave the ledger as it was.
+    ensures unoperated { ¬ Means (texts_of words.now) Operate → result.2 ≡ ledger }
     // What holds of the history that an input leaves, whatever the input.
     ensures theorem { (bytes : List ℕ) → JournalTheorem bytes }
     // What holds of every legal history, whatever it comes from.
@@ -48,15 +62,25 @@ pub fn top<R: Threads + Wait + Sync, S: Source, K: Sink, C: Clock + Send, G: Gat
 {
     laws_hold();
     match read_words(alloc, words) {
-        Ok(Task::Serial(task)) => (serve(alloc, &task, source, sink), disk),
+        Ok(Task::Serial(task)) => (serve(alloc, &task, source, sink), disk, ledger),
         Ok(Task::Live(task)) => {
             let status = live(rt, alloc, &task, source, sink, clock, gate);
-            (status, disk)
+            (status, disk, ledger)
         }
-        Ok(Task::Keep) => keep(alloc, source, sink, disk),
-        Ok(Task::Export) => export(alloc, sink, disk),
-        Err(WordFault::Refused) => (Status::BadWords, disk),
-        Err(WordFault::Memory) => (Status::OutOfMemory, disk),
+        Ok(Task::Keep) => {
+            let (status, disk) = keep(alloc, source, sink, disk);
+            (status, disk, ledger)
+        }
+        Ok(Task::Export) => {
+            let (status, disk) = export(alloc, sink, disk);
+            (status, disk, ledger)
+        }
+        Ok(Task::Operate) => {
+            let (status, ledger) = operate(alloc, source, sink, ledger);
+            (status, disk, ledger)
+        }
+        Err(WordFault::Refused) => (Status::BadWords, disk, ledger),
+        Err(WordFault::Memory) => (Status::OutOfMemory, disk, ledger),
     }
 }
 

@@ -36,7 +36,8 @@ fn run_on<R: Threads + Wait + Sync>(
     let mut source = SureSource::new(input.as_bytes().to_vec(alloc)?);
     let mut sink = SureSink::new(alloc);
     let clock = MemoryClock::new(Vec::new(alloc));
-    let (status, disk) = top(
+    let ledger = empty_disk(alloc)?;
+    let (status, disk, _ledger) = top(
         rt,
         alloc,
         &words,
@@ -45,6 +46,7 @@ fn run_on<R: Threads + Wait + Sync>(
         clock,
         &OpenGate,
         disk,
+        ledger,
     );
     Ok(Kept {
         status: status.number(),

@@ -33,10 +33,12 @@ pub fn end_of<R: Threads + Wait + Sync, S: Source, K: Sink>(
     sink: &mut K,
 ) -> Status {
     let clock = MemoryClock::new(Vec::new(alloc));
-    let Ok(disk) = empty_disk(alloc) else {
+    let (Ok(disk), Ok(ledger)) = (empty_disk(alloc), empty_disk(alloc)) else {
         return Status::OutOfMemory;
     };
-    let (status, _disk) = top(rt, alloc, words, source, sink, clock, &OpenGate, disk);
+    let (status, _disk, _ledger) = top(
+        rt, alloc, words, source, sink, clock, &OpenGate, disk, ledger,
+    );
     status
 }
 

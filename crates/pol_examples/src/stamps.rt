@@ -124,7 +124,8 @@ fn two_actors_meet_at_the_gate_and_the_stamps_of_each_actor_rise(
         calls: 0,
     };
     let disk = empty_disk(alloc)?;
-    let (status, _disk) = top(
+    let ledger = empty_disk(alloc)?;
+    let (status, _disk, _ledger) = top(
         &rt,
         alloc,
         &words,
@@ -133,6 +134,7 @@ fn two_actors_meet_at_the_gate_and_the_stamps_of_each_actor_rise(
         clock,
         &gate,
         disk,
+        ledger,
     );
     assert_eq!(rt; status.number(), 0);
     assert_eq!(rt; gate.met.load(Ordering::SeqCst), 2);

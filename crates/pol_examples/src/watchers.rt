@@ -42,7 +42,8 @@ fn each_watcher_that_is_asked_for_looks_a_thousand_times(rt: HostRuntime) -> Res
             all: AtomicU64::new(0),
         };
         let disk = empty_disk(alloc)?;
-        let (status, _disk) = top(
+        let ledger = empty_disk(alloc)?;
+        let (status, _disk, _ledger) = top(
             &rt,
             alloc,
             &words,
@@ -51,6 +52,7 @@ fn each_watcher_that_is_asked_for_looks_a_thousand_times(rt: HostRuntime) -> Res
             clock,
             &gate,
             disk,
+            ledger,
         );
         assert_eq!(rt; status.number(), 0);
         assert_eq!(rt; gate.first.load(Ordering::SeqCst), watchers, "{line}");

@@ -6,5 +6,6 @@ use std::process::ExitCode;
 
 fn main(rt: HostRuntime) -> ExitCode {
     let disk = FileDisk::new(&rt, "pol.journal", ".", Unknown);
-    pol_cli::run(&rt, disk)
+    let ledger = FileDisk::new(&rt, "pol.plant", ".", Unknown);
+    pol_cli::run(&rt, disk, ledger)
 }

@@ -1,10 +1,10 @@
 use Rattle.pol_arguments.specs.Words.{texts_of}
-use Rattle.pol_arguments.specs.declared.Task.TheVariants.{Export, Keep, Live, Serial}
+use Rattle.pol_arguments.specs.declared.Task.TheVariants.{Export, Keep, Live, Operate, Serial}
 use Rattle.std.proofs.Common.{◌≡◌, inl, inr, refl}
 use Rattle.pol_jobs.specs.Ends.{edge}
 use Rattle.pol_keep.specs.Keeping.{telling}
 use Rattle.pol_cli.specs.Worked.{disks, edges}
-use Rattle.pol_cli.proofs.Asked.{by_kept, by_live, by_no_memory, by_none, by_serial, ends_as}
+use Rattle.pol_cli.proofs.Asked.{by_kept, by_live, by_no_memory, by_none, by_operated, by_serial, ends_as}
 use Rattle.pol_cli.proofs.Unread.{unbegun_ends}
 use Rattle.pol_cli.proofs.program.top.Goals as goal
 
@@ -12,7 +12,7 @@ use Rattle.pol_cli.proofs.program.top.Goals as goal
 
 pub returns-in-Ok-Serial-clause-ends : goal.returns-in-Ok-Serial-clause-ends
 returns-in-Ok-Serial-clause-ends g c =
-    ends_as (texts_of c.args.words.now) (Serial c.in-Ok-Serial.task) _ _ _ _
+    ends_as (texts_of c.args.words.now) (Serial c.in-Ok-Serial.task) _ _ _ _ _
     (rw c.in-Ok-Serial.field-0-is at c.in-Ok-Serial.ensures.ok) c.serve.ensures.ends
 
 pub returns-in-Ok-Serial-clause-words : goal.returns-in-Ok-Serial-clause-words
@@ -24,7 +24,7 @@ returns-in-Ok-Serial-clause-words g c =
 
 pub returns-in-Ok-Live-clause-ends : goal.returns-in-Ok-Live-clause-ends
 returns-in-Ok-Live-clause-ends g c =
-    ends_as (texts_of c.args.words.now) (Live c.in-Ok-Live.task) _ _ _ _
+    ends_as (texts_of c.args.words.now) (Live c.in-Ok-Live.task) _ _ _ _ _
     (rw c.in-Ok-Live.field-0-is at c.in-Ok-Live.ensures.ok) c.live-status.ensures.ends
 
 pub returns-in-Ok-Live-clause-words : goal.returns-in-Ok-Live-clause-words
@@ -36,14 +36,14 @@ returns-in-Ok-Live-clause-words g c =
 
 pub returns-in-Ok-Keep-clause-ends : goal.returns-in-Ok-Keep-clause-ends
 returns-in-Ok-Keep-clause-ends g c =
-    ends_as (texts_of c.args.words.now) Keep _ _ _ _ (rw c.in-Ok-Keep.field-0-is at c.in-Ok-Keep.ensures.ok)
-    c.keep.ensures.ends
+    ends_as (texts_of c.args.words.now) Keep _ _ _ _ _ (rw c.in-Ok-Keep.field-0-is at c.in-Ok-Keep.ensures.ok)
+    c.keep-status.ensures.ends
 
 pub returns-in-Ok-Keep-clause-words : goal.returns-in-Ok-Keep-clause-words
 returns-in-Ok-Keep-clause-words g c =
     let means = (rw c.in-Ok-Keep.field-0-is at c.in-Ok-Keep.ensures.ok) in
-    by_kept (texts_of c.args.words.now) _ _ _ Keep means (inl means) c.keep.ensures.ends.job.result
-    c.keep.ensures.ends.job.told
+    by_kept (texts_of c.args.words.now) _ _ _ Keep means (inl means) c.keep-status.ensures.ends.job.result
+    c.keep-status.ensures.ends.job.told
 
 pub returns-in-Ok-Keep-clause-unkept : goal.returns-in-Ok-Keep-clause-unkept
 returns-in-Ok-Keep-clause-unkept g c = λ not. absurd (not (inl (rw c.in-Ok-Keep.field-0-is at c.in-Ok-Keep.ensures.ok)))
@@ -51,23 +51,40 @@ returns-in-Ok-Keep-clause-unkept g c = λ not. absurd (not (inl (rw c.in-Ok-Keep
 pub returns-in-Ok-Export-clause-ends : goal.returns-in-Ok-Export-clause-ends
 returns-in-Ok-Export-clause-ends g c =
     let d = g.D.Disk in
-    let ended = c.export.ensures.ends in
+    let ended = c.export-status.ensures.ends in
     ends_as (texts_of c.args.words.now) Export
     (edges g.S.Source.left g.S.Source.faults c.args.source.now c.args.source.now)
-    (edges g.K.Sink.held g.K.Sink.faults c.args.sink.now c.export.new.sink)
-    (disks d.bytes d.images d.moment d.left_since d.faults c.args.disk c.export.result.1) c.export.result.0
+    (edges g.K.Sink.held g.K.Sink.faults c.args.sink.now c.export-status.new.sink)
+    (disks d.bytes d.images d.moment d.left_since d.faults c.args.disk c.export-status.result.1) _
+    c.export-status.result.0
     (rw c.in-Ok-Export.field-0-is at c.in-Ok-Export.ensures.ok)
     (record { job = ended.job; holds = ended.holds; unread = refl })
 
 pub returns-in-Ok-Export-clause-words : goal.returns-in-Ok-Export-clause-words
 returns-in-Ok-Export-clause-words g c =
     let means = (rw c.in-Ok-Export.field-0-is at c.in-Ok-Export.ensures.ok) in
-    by_kept (texts_of c.args.words.now) _ _ _ Export means (inr means) c.export.ensures.ends.job.result
-    c.export.ensures.ends.job.told
+    by_kept (texts_of c.args.words.now) _ _ _ Export means (inr means) c.export-status.ensures.ends.job.result
+    c.export-status.ensures.ends.job.told
 
 pub returns-in-Ok-Export-clause-unkept : goal.returns-in-Ok-Export-clause-unkept
 returns-in-Ok-Export-clause-unkept g c =
     λ not. absurd (not (inr (rw c.in-Ok-Export.field-0-is at c.in-Ok-Export.ensures.ok)))
+
+-- ---- the operated plant
+
+pub returns-in-Ok-Operate-clause-ends : goal.returns-in-Ok-Operate-clause-ends
+returns-in-Ok-Operate-clause-ends g c =
+    ends_as (texts_of c.args.words.now) Operate _ _ _ _ _
+    (rw c.in-Ok-Operate.field-0-is at c.in-Ok-Operate.ensures.ok) c.operate-status.ensures.ends
+
+pub returns-in-Ok-Operate-clause-words : goal.returns-in-Ok-Operate-clause-words
+returns-in-Ok-Operate-clause-words g c =
+    by_operated (texts_of c.args.words.now) _ _ _ (rw c.in-Ok-Operate.field-0-is at c.in-Ok-Operate.ensures.ok)
+    c.operate-status.ensures.ends.unbegun
+
+pub returns-in-Ok-Operate-clause-unoperated : goal.returns-in-Ok-Operate-clause-unoperated
+returns-in-Ok-Operate-clause-unoperated g c =
+    λ not. absurd (not (rw c.in-Ok-Operate.field-0-is at c.in-Ok-Operate.ensures.ok))
 
 -- ---- no task
 
@@ -87,10 +104,12 @@ returns-in-Err-Refused-clause-words g c =
 pub returns-clause-ends : goal.returns-clause-ends
 returns-clause-ends g c =
     let d = g.D.Disk in
+    let l = g.L.Disk in
     λ task means. unbegun_ends (edge (g.S.Source.left c.args.source.now) (g.S.Source.faults c.args.source.now))
     (edge (g.K.Sink.held c.args.sink.now) (g.K.Sink.faults c.args.sink.now))
     (c.args.source.now ≡ c.args.source.now) (c.args.sink.now ≡ c.args.sink.now) refl refl
-    (telling d.bytes d.images d.moment d.left_since d.faults) c.args.disk (g.met.D.Disk.only_now c.args.disk) (record {
+    (telling d.bytes d.images d.moment d.left_since d.faults) c.args.disk (g.met.D.Disk.only_now c.args.disk)
+    (telling l.bytes l.images l.moment l.left_since l.faults) c.args.ledger (g.met.L.Disk.only_now c.args.ledger) (record {
       audits = c.laws_hold.ensures.audits;
       guards = c.laws_hold.ensures.guards;
       migrations = c.laws_hold.ensures.migrations;
