@@ -9,7 +9,9 @@
 //! messages with one SHA-256.
 //!
 //! The other main contracts are those of `open` and of the `Chronicle` methods of `Ledger`. It knows nothing of files,
-//! of lines of input, or of whether who asked may. No job uses it yet.
+//! of lines of input, or of whether who asked may.
+//!
+//! Tried in `operate_examples`.
 #![tactic(auto)]
 
 mod bodies;
