@@ -5,7 +5,7 @@ use Rattle.std.specs.Prelude.{decimal}
 use Rattle.json.specs.Token as token
 use Rattle.json.specs.Token.{Token}
 use Rattle.json.specs.Tree.{items_tokens}
-use Rattle.serde_json.specs.Data.{Data, boolean, number}
+use Rattle.serde_json.specs.Data.{Data}
 use Rattle.serde_json.specs.View.{items_of}
 use Rattle.serde_json.specs.Written.{items_outline}
 use Rattle.mtp_codes.specs.declared.value.Setting.{Setting}
