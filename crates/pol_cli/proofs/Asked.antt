@@ -14,7 +14,9 @@ use Rattle.pol_jobs.specs.declared.fault.JobFault.{JobFault}
 use Rattle.pol_jobs.specs.declared.fault.JobFault.TheVariants as job
 use Rattle.pol_keep.specs.declared.fault.KeepFault.{KeepFault}
 use Rattle.pol_keep.specs.declared.fault.KeepFault.TheVariants as kept
-use Rattle.pol_cli.specs.Statuses.{no_refusal, refused_as, status_of, status_of_kept}
+use Rattle.pol_operate.specs.declared.fault.OperateFault.{OperateFault}
+use Rattle.pol_operate.specs.declared.fault.OperateFault.TheVariants as operated
+use Rattle.pol_cli.specs.Statuses.{no_refusal, refused_as, status_of, status_of_kept, status_of_operated}
 use Rattle.pol_cli.specs.Tasks.{AskForDiskOf, AskForKept, GoesByWords, JobEnds, PlantEnds, SerialEnds, TaskEnds}
 use Rattle.pol_cli.specs.Worked.{Disks, Edges}
 use Rattle.pol_cli.specs.declared.status.Wanted.TheVariants.{Site, Policy}
@@ -110,6 +112,29 @@ of_kept words asks (Err kept.TooMuch) = tt
 of_kept words asks (Err kept.Disk) = inl asks
 of_kept words asks (Err (kept.NotAStore place)) = asks
 
+-- nor does the one on an operated plant
+operated_not_bad : (result : Result (Unit {0}) OperateFault) → status_of_operated result ≡ status.BadWords → ⊥
+operated_not_bad (Ok done) is = cc
+operated_not_bad (Err operated.Read) is = cc
+operated_not_bad (Err operated.Write) is = cc
+operated_not_bad (Err operated.Memory) is = cc
+operated_not_bad (Err operated.TooMuch) is = cc
+operated_not_bad (Err operated.Disk) is = cc
+operated_not_bad (Err (operated.NotALedger place)) is = cc
+operated_not_bad (Err (operated.BadPolicy fault)) is = cc
+
+-- where it tells of the ledger's disk, it is asked for
+of_operated : (words : List (List ℕ)) → Means words Operate → (result : Result (Unit {0}) OperateFault) →
+    AskForDiskOf words (status_of_operated result)
+of_operated words means (Ok done) = tt
+of_operated words means (Err operated.Read) = tt
+of_operated words means (Err operated.Write) = tt
+of_operated words means (Err operated.Memory) = tt
+of_operated words means (Err operated.TooMuch) = tt
+of_operated words means (Err operated.Disk) = inr means
+of_operated words means (Err (operated.NotALedger place)) = means
+of_operated words means (Err (operated.BadPolicy fault)) = tt
+
 -- ---- what the words have to do with the status
 
 module _ (words : List (List ℕ)) (source sink : Edges) (now : Status) where
@@ -144,12 +169,11 @@ module _ (words : List (List ℕ)) (source sink : Edges) (now : Status) where
       (subst (AskForDiskOf words) (sym told) (of_kept words asks result))
 
   -- the one on the operated plant
-  pub by_operated : Means words Operate → now ≡ status.OutOfMemory → GoesByWords words source sink now
-  by_operated means told =
-      meant_by Operate means (λ bad. differ (sym told ∙ bad)) (subst (AskForDiskOf words) (sym told) tt)
-    where
-      differ : status.OutOfMemory ≡ status.BadWords → ⊥
-      differ is = cc
+  pub by_operated : Means words Operate → (result : Result (Unit {0}) OperateFault) →
+      now ≡ status_of_operated result → GoesByWords words source sink now
+  by_operated means result told =
+      meant_by Operate means (λ bad. operated_not_bad result (sym told ∙ bad))
+      (subst (AskForDiskOf words) (sym told) (of_operated words means result))
 
 -- where they mean none
 pub by_none : (words : List (List ℕ)) (source sink : Edges) → ((task : Task) → Means words task → ⊥) →

@@ -7,5 +7,7 @@ pub mod PlantEnding
 pub mod Auditing
 pub mod Told
 pub mod Keeping
+pub mod Unsaid
+pub mod Operating
 pub mod Unread
 pub mod Asked

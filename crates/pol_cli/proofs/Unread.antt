@@ -1,5 +1,5 @@
 -- Where there was no memory to read the words, each task ended as one that had none: nothing was begun.
-use Rattle.std.proofs.Common.{ℕ, ◌≡◌, ◌⊎◌, List, refl, inl, inr}
+use Rattle.std.proofs.Common.{ℕ, ◌≡◌, ◌⊎◌, List, true, refl, inl, inr}
 use Rattle.std.specs.Prelude.{Err}
 use Rattle.std.specs.declared.convert.Infallible.{Infallible}
 use Rattle.mtp_json.specs.declared.fault.FaultKind.{FaultKind}
@@ -19,19 +19,28 @@ use Rattle.pol_find.specs.Finding.{found}
 use Rattle.pol_find.specs.Starts.{BindingsStart}
 use Rattle.pol_guard.specs.Guarded.{guarded}
 use Rattle.pol_guard.specs.Laws.{GuardTheorem}
+use Rattle.kept_jobs.specs.Leaving.{IsEarlier}
+use Rattle.kept_jobs.specs.Leaving as items
 use Rattle.pol_keep.specs.Exported.{exported_output, no_input}
 use Rattle.pol_keep.specs.Keeping.{Telling}
 use Rattle.pol_keep.specs.Kept.{StandsForMore, kept_output}
 use Rattle.pol_keep.proofs.Ended.{of_input}
 use Rattle.pol_keep.specs.declared.fault.KeepFault.TheVariants as kept
+use Rattle.pol_ledger.specs.Work.{ledger_work}
 use Rattle.pol_migration.specs.Job.{migrating}
 use Rattle.pol_migration.specs.Migration.{MigrationKeepsOutputs}
+use Rattle.pol_operate.specs.Asked.{OperatedIsRun}
+use Rattle.pol_operate.specs.Kept.{operate_job}
+use Rattle.pol_operate.specs.Laws.{LinesAreGuarded}
+use Rattle.pol_operate.specs.declared.fault.OperateFault.TheVariants as operated
 use Rattle.pol_replay.specs.Replay.{replayed}
 use Rattle.pol_store.specs.Stands.{StandsFor}
 use Rattle.pol_cli.specs.Audits.{AuditTheorem, audited}
+use Rattle.pol_cli.specs.Operating.{items_telling}
 use Rattle.pol_cli.specs.SiteRuns.{planted}
 use Rattle.pol_cli.specs.Statuses.{no_refusal, refused_as}
-use Rattle.pol_cli.specs.Tasks.{ExportEnds, JobEnds, KeepingEnds, KeptEnds, SerialEnds, TaskEnds, demonstrated}
+use Rattle.pol_cli.specs.Tasks.{ExportEnds, JobEnds, KeepingEnds, KeptEnds, OperatingEnds, SerialEnds, TaskEnds}
+use Rattle.pol_cli.specs.Tasks.{demonstrated}
 use Rattle.pol_cli.specs.Worked.{Disks, Edges}
 use Rattle.pol_cli.specs.declared.status.Wanted.TheVariants.{Site, Policy}
 use Rattle.pol_cli.specs.declared.status.Status.{Status}
@@ -44,6 +53,8 @@ pub record JobLaws : Type 0 where
   pub guards : (bytes : List ℕ) → GuardTheorem bytes
   pub migrations : MigrationKeepsOutputs
   pub bindings : BindingsStart
+  pub operated : LinesAreGuarded
+  pub operations : OperatedIsRun
 
 -- a source or a sink that was left as it was
 abbrev pub rested : Edge → (Same : Type 0) → Edges
@@ -68,6 +79,10 @@ not_failed is = cc
 -- and it isn't told to be no store
 not_stored : (place : ℕ) → status.OutOfMemory ≡ status.NotAStore place → ⊥
 not_stored place is = cc
+
+-- nor no ledger
+not_ledger : (place : ℕ) → status.OutOfMemory ≡ status.NotALedger place → ⊥
+not_ledger place is = cc
 
 module _ (source sink : Edge) (SameSource SameSink : Type 0) (source_same : SameSource) (sink_same : SameSink) where
   -- a job over lines
@@ -141,19 +156,50 @@ module _ (source sink : Edge) (SameSource SameSink : Type 0) (source_same : Same
       unread = source_same;
     }
 
+    -- one on an operated plant
+    operating_unbegun : JobLaws → OperatingEnds (rested source SameSource) (rested sink SameSink)
+        (rested_disk tells disk) status.OutOfMemory
+    operating_unbegun laws = record {
+      job = record {
+        result = Err operated.Memory;
+        told = refl;
+        ends = inl (refl, refl);
+        begins = λ all later told still none well. inr refl;
+        unsaid = λ path fault is. absurd (not_refused path fault is);
+        disk_cause = λ is. absurd (not_failed is);
+        no_ledger = λ place is. absurd (not_ledger place is);
+        untouched = λ place is. (source_same, sink_same);
+      };
+      keeps = record {
+        lines = record {
+          moments = λ old reads told. of_input source.bytes _ (λ input. started tells.moment tells.left_since disk
+              (λ image. IsEarlier ledger_work (items_telling tells) true disk old image
+              ⊎ items.StandsForMore ledger_work (operate_job.items_with old) input image)
+              (λ image since. inl (inl (only_now image since))));
+          kept = λ old reads told. of_input source.bytes _ (λ input image crash. inl (refl, inl crash));
+        };
+        all = λ good. absurd (not_good good);
+      };
+      guards = laws.operated;
+      runs = laws.operations;
+    }
+
+  module _ {D L : Type 0} (tells : Telling D) (disk : D)
+      (only_now : (image : List ℕ) → tells.left_since disk (tells.moment disk) image → tells.images disk image)
+      (told : Telling L) (ledger : L)
+      (only_then : (image : List ℕ) → told.left_since ledger (told.moment ledger) image → told.images ledger image)
+      where
     -- any task
-    pub unbegun_ends : {L : Type 0} (told : Telling L) (ledger : L)
-        (only_then : (image : List ℕ) → told.left_since ledger (told.moment ledger) image → told.images ledger image)
-        (laws : JobLaws) (task : Task) →
+    pub unbegun_ends : JobLaws → (task : Task) →
         TaskEnds task (rested source SameSource) (rested sink SameSink) (rested_disk tells disk)
         (rested_disk told ledger) status.OutOfMemory
     unfolding no_memory_ends job_ends
-    unbegun_ends told ledger only_then laws (Serial task) = serial_unbegun laws task
-    unbegun_ends told ledger only_then laws (Live task) = record {
+    unbegun_ends laws (Serial task) = serial_unbegun laws task
+    unbegun_ends laws (Live task) = record {
       job = no_memory_ends planted (refused_as Site) source SameSource;
       writes = inl (Keeps_refl sink.bytes);
       unbegun = λ good write memory. absurd (memory refl);
     }
-    unbegun_ends told ledger only_then laws Keep = keeping_unbegun
-    unbegun_ends told ledger only_then laws Export = export_unbegun
-    unbegun_ends told ledger only_then laws Operate = record { unbegun = refl }
+    unbegun_ends laws Keep = keeping_unbegun tells disk only_now
+    unbegun_ends laws Export = export_unbegun tells disk only_now
+    unbegun_ends laws Operate = operating_unbegun told ledger only_then laws

@@ -5,4 +5,5 @@ pub mod SiteTexts
 pub mod SiteRuns
 pub mod Audits
 pub mod Keeping
+pub mod Operating
 pub mod Worked

@@ -6,6 +6,7 @@ use Rattle.mtp_json.specs.declared.fault.FaultKind.{FaultKind}
 use Rattle.mtp_json.specs.declared.path.PathPart.{PathPart}
 use Rattle.pol_disk.specs.Disks.{told_through}
 use Rattle.pol_events.specs.Events.{PlainEvent}
+use Rattle.pol_io.specs.Known.{Between}
 use Rattle.pol_arguments.specs.Words.{Means}
 use Rattle.pol_arguments.specs.declared.SerialTask.{SerialTask}
 use Rattle.pol_arguments.specs.declared.SerialTask.TheVariants.{Replay, Demo, Audit, Find, Guard, Migrate}
@@ -26,10 +27,17 @@ use Rattle.pol_keep.specs.declared.fault.KeepFault.{KeepFault}
 use Rattle.pol_migration.specs.Job.{migrating}
 use Rattle.pol_migration.specs.Migration.{MigrationKeepsOutputs}
 use Rattle.pol_replay.specs.Replay.{replayed}
+use Rattle.pol_kept.specs.Opens as of_items
+use Rattle.pol_ledger.specs.Work.{ledger_work}
+use Rattle.pol_operate.specs.Asked.{OperatedIsRun}
+use Rattle.pol_operate.specs.Ends.{OperateEnds}
+use Rattle.pol_operate.specs.Laws.{LinesAreGuarded}
+use Rattle.pol_operate.specs.declared.fault.OperateFault.{OperateFault}
 use Rattle.pol_store.specs.Opens.{IsNoStore}
 use Rattle.pol_cli.specs.Keeping.{BeginsOnStores, DiskFailed, HoldsEvents, KeepsInput}
+use Rattle.pol_cli.specs.Operating.{BeginsOnLedgers, HasNoPolicy, KeepsAsked}
 use Rattle.pol_cli.specs.SiteRuns.{RunWrites, planted}
-use Rattle.pol_cli.specs.Statuses.{no_refusal, refused_as, status_of, status_of_kept}
+use Rattle.pol_cli.specs.Statuses.{no_refusal, refused_as, status_of, status_of_kept, status_of_operated}
 use Rattle.pol_cli.specs.Worked.{Disks, Edges, no_source}
 use Rattle.pol_cli.specs.declared.status.Wanted.TheVariants.{Site, Policy}
 use Rattle.pol_cli.specs.declared.status.Status.{Status}
@@ -135,9 +143,39 @@ pub record ExportEnds {D : Type 0} (source sink : Edges) (disk : Disks D) (statu
   -- the source isn't read
   pub unread : source.Untouched
 
--- how a replay on an operated plant ended
+-- How the job on an operated plant ended, by its source, its sink and its ledger's disk: with some result, whose status
+-- this is and whose row of `OperateEnds` holds.
+pub record OperatedEnds {D : Type 0} (source sink : Edges) (ledger : Disks D) (status : Status) : Type 0 where
+  pub result : Result (Unit {0}) OperateFault
+  pub told : status ≡ status_of_operated result
+  pub ends : OperateEnds (told_through (ledger.tells.bytes ledger.before) (ledger.tells.bytes ledger.after))
+      source.before source.after sink.before sink.after result
+  -- on a disk that is no ledger nothing is begun
+  pub begins : BeginsOnLedgers ledger status
+  -- 9 only where the input has no policy; and then nothing was written
+  pub unsaid : (path : List PathPart) (fault : FaultKind) → status ≡ BadPolicy path fault →
+      Between (HasNoPolicy (record { kind = fault; path = path }) sink.before.bytes sink.after.bytes)
+      source.before.bytes source.after.bytes
+  -- 10 only where the disk failed
+  pub disk_cause : status ≡ DiskFault → DiskFailed ledger
+  -- 12 only where it didn't, and its bytes stand for no items: the first record that doesn't follow stands at this
+  -- place
+  pub no_ledger : (place : ℕ) → status ≡ NotALedger place →
+      (ledger.tells.faults ledger.after ≡ ledger.tells.faults ledger.before)
+      × IfSome (ledger.tells.bytes ledger.after) (λ all. of_items.IsNoStore ledger_work all place)
+  -- and then nothing was read or written
+  pub untouched : (place : ℕ) → status ≡ NotALedger place → source.Untouched × sink.Untouched
+
+-- how an operated plant ended
 pub record OperatingEnds {D : Type 0} (source sink : Edges) (ledger : Disks D) (status : Status) : Type 0 where
-  pub unbegun : status ≡ OutOfMemory
+  -- its output is that of the lines behind the policy, on the ledger that the disk read as
+  pub job : OperatedEnds source sink ledger status
+  -- what the disk holds at the end, and what a crash at any moment leaves
+  pub keeps : KeepsAsked source sink ledger status
+  -- whatever a line says: what it asks is allowed to whom it names, and a denial names its rule
+  pub guards : LinesAreGuarded
+  -- whatever the ledger and the lines: the history behind them is the run of the old events and of those they ask for
+  pub runs : OperatedIsRun
 
 -- ---- how a task ended
 

@@ -3,6 +3,8 @@ ghost use Rattle.std.specs.Prelude.{ℕ, List};
 ghost use Rattle.pol_find.specs.Starts.{BindingsStart};
 ghost use Rattle.pol_guard.specs.Laws.{GuardTheorem};
 ghost use Rattle.pol_migration.specs.Migration.{MigrationKeepsOutputs};
+ghost use Rattle.pol_operate.specs.Asked.{OperatedIsRun};
+ghost use Rattle.pol_operate.specs.Laws.{LinesAreGuarded};
 ghost use Rattle.pol_cli.specs.Audits.{AuditTheorem};
 ghost use Rattle.pol_cli.specs.Journal.{JournalTheorem, Laws};
 
@@ -11,11 +13,13 @@ use pol_find::bindings_start;
 use pol_guard::guards_are_sound;
 use pol_history::{reports_are_paths, runs_are_legal};
 use pol_migration::migration_keeps_outputs;
+use pol_operate::{operated_are_guarded, operated_are_runs};
 use pol_removal::{removal_of_events, removal_of_lines};
 use pol_safety::{commands_are_permitted, histories_are_sound, logs_follow_charts};
 
-/// Whatever the input: the journal theorem holds of it, and so do those of an audit, of a guard and of a migration.
-/// Whatever the legal history: the laws hold of it, and printed bindings start.
+/// Whatever the input: the journal theorem holds of it, and so do those of an audit, of a guard and of a migration, and
+/// what is said of the lines of an operated plant. Whatever the legal history: the laws hold of it, and printed bindings
+/// start.
 pub fn laws_hold()
     ensures theorem { (bytes : List ℕ) → JournalTheorem bytes }
     ensures laws { Laws }
@@ -23,6 +27,8 @@ pub fn laws_hold()
     ensures guards { (bytes : List ℕ) → GuardTheorem bytes }
     ensures migrations { MigrationKeepsOutputs }
     ensures bindings { BindingsStart }
+    ensures operated { LinesAreGuarded }
+    ensures operations { OperatedIsRun }
 {
     runs_are_legal();
     histories_are_sound();
@@ -35,4 +41,6 @@ pub fn laws_hold()
     guards_are_sound();
     migration_keeps_outputs();
     bindings_start();
+    operated_are_guarded();
+    operated_are_runs();
 }

@@ -28,6 +28,8 @@ mod looking_back;
 #[cfg(test)]
 mod modules;
 #[cfg(test)]
+mod operating;
+#[cfg(test)]
 mod plants;
 #[cfg(test)]
 mod rules;

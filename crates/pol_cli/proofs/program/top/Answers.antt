@@ -80,7 +80,7 @@ returns-in-Ok-Operate-clause-ends g c =
 pub returns-in-Ok-Operate-clause-words : goal.returns-in-Ok-Operate-clause-words
 returns-in-Ok-Operate-clause-words g c =
     by_operated (texts_of c.args.words.now) _ _ _ (rw c.in-Ok-Operate.field-0-is at c.in-Ok-Operate.ensures.ok)
-    c.operate-status.ensures.ends.unbegun
+    c.operate-status.ensures.ends.job.result c.operate-status.ensures.ends.job.told
 
 pub returns-in-Ok-Operate-clause-unoperated : goal.returns-in-Ok-Operate-clause-unoperated
 returns-in-Ok-Operate-clause-unoperated g c =
@@ -114,6 +114,8 @@ returns-clause-ends g c =
       guards = c.laws_hold.ensures.guards;
       migrations = c.laws_hold.ensures.migrations;
       bindings = c.laws_hold.ensures.bindings;
+      operated = c.laws_hold.ensures.operated;
+      operations = c.laws_hold.ensures.operations;
     }) task
 
 pub returns-clause-words : goal.returns-clause-words
