@@ -188,18 +188,18 @@ module _ (source sink : Edge) (SameSource SameSink : Type 0) (source_same : Same
       (only_now : (image : List ℕ) → tells.left_since disk (tells.moment disk) image → tells.images disk image)
       (told : Telling L) (ledger : L)
       (only_then : (image : List ℕ) → told.left_since ledger (told.moment ledger) image → told.images ledger image)
-      where
-    -- any task
-    pub unbegun_ends : JobLaws → (task : Task) →
-        TaskEnds task (rested source SameSource) (rested sink SameSink) (rested_disk tells disk)
-        (rested_disk told ledger) status.OutOfMemory
-    unfolding no_memory_ends job_ends
-    unbegun_ends laws (Serial task) = serial_unbegun laws task
-    unbegun_ends laws (Live task) = record {
-      job = no_memory_ends planted (refused_as Site) source SameSource;
-      writes = inl (Keeps_refl sink.bytes);
-      unbegun = λ good write memory. absurd (memory refl);
-    }
-    unbegun_ends laws Keep = keeping_unbegun tells disk only_now
-    unbegun_ends laws Export = export_unbegun tells disk only_now
-    unbegun_ends laws Operate = operating_unbegun told ledger only_then laws
+    where
+      -- any task
+      pub unbegun_ends : JobLaws → (task : Task) →
+          TaskEnds task (rested source SameSource) (rested sink SameSink) (rested_disk tells disk)
+          (rested_disk told ledger) status.OutOfMemory
+      unfolding no_memory_ends job_ends
+      unbegun_ends laws (Serial task) = serial_unbegun laws task
+      unbegun_ends laws (Live task) = record {
+        job = no_memory_ends planted (refused_as Site) source SameSource;
+        writes = inl (Keeps_refl sink.bytes);
+        unbegun = λ good write memory. absurd (memory refl);
+      }
+      unbegun_ends laws Keep = keeping_unbegun tells disk only_now
+      unbegun_ends laws Export = export_unbegun tells disk only_now
+      unbegun_ends laws Operate = operating_unbegun told ledger only_then laws

@@ -106,9 +106,7 @@ fn first_run<R: Threads + Wait + Sync>(rt: &R, alloc: Global) -> Result<Operated
 }
 
 #[test]
-fn a_run_goes_on_with_what_was_asked_for_in_the_one_before_it(
-    rt: HostRuntime,
-) -> Result<(), Fail> {
+fn a_run_goes_on_with_what_was_asked_for_in_the_one_before_it(rt: HostRuntime) -> Result<(), Fail> {
     let alloc = rt.alloc();
     let first = first_run(&rt, alloc)?;
     assert_eq!(rt; first.status, 0);
