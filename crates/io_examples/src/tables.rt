@@ -37,6 +37,18 @@ fn a_left_place_is_used_again_and_all_tags_are_found(rt: HostRuntime) -> Result<
 }
 
 #[test]
+fn the_docked_tags_are_listed_in_byte_order(rt: HostRuntime) -> Result<(), Fail> {
+    let mut table = Table::new(rt.alloc());
+    for number in [12u8, 7, 30, 1] {
+        assert!(rt; table.dock(tag(&rt, number), number).is_ok());
+    }
+    let tags = table.tags(rt.alloc())?;
+    let wanted = [tag(&rt, 1), tag(&rt, 7), tag(&rt, 12), tag(&rt, 30)];
+    assert_eq!(rt; &tags[..], &wanted[..]);
+    Ok(())
+}
+
+#[test]
 fn a_batch_holds_all_of_its_tags_or_none(rt: HostRuntime) -> Result<(), Fail> {
     let (first, second, third) = (tag(&rt, 1), tag(&rt, 2), tag(&rt, 3));
     let (mixing, dosing) = (name(&rt, b"mixing"), name(&rt, b"dosing"));

@@ -44,7 +44,9 @@ abandon_answered history at batch run rows freed runs after seats counted mirror
             batch_is = keeps.batch_is;
             recipe = keeps.recipe;
             binds = keeps.binds;
+            recipe_is = keeps.recipe_is;
             binds_are = keeps.binds_are;
+            held_are = keeps.held_are;
             started = keeps.started;
             charted = keeps.charted;
             follows = record {

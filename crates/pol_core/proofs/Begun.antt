@@ -1,7 +1,8 @@
 -- A batch that is started: its answer, and the tables then.
-use Rattle.std.proofs.Common.{◌≡◌, ℕ, ◌+◌, suc, Bool, true, false, cond, List, [], ◌∷◌, map, length, Option, Some, None}
+use Rattle.std.proofs.Common.{◌≡◌, ℕ, ◌+◌, suc, Bool, true, false, cond, List, [], ◌∷◌, ◌++◌, map, length, Option, Some, None}
 use Rattle.std.proofs.Common.{Ok, is_some, refl, ap, sym, ◌∙◌, subst, arith, not}
-use Rattle.std.specs.Prelude.{IsSome, nat_le, filter}
+use Rattle.std.specs.Prelude.{IsSome, nat_le, filter, filter_map}
+use Rattle.std.proofs.lemmas.List.{reverse-append}
 use Rattle.std.specs.List.{AllByRecursion, Contains, IsDistinct, list_all}
 use Rattle.std.proofs.lemmas.Bool.{and_parts, not-true}
 use Rattle.std.proofs.lemmas.List.Elements.{Contains-append_left, Contains-append_right}
@@ -27,8 +28,8 @@ use Rattle.pol_events.specs.declared.event.Bind.{Bind}
 use Rattle.pol_events.proofs.Lists.{member_first, member_later, member_image, among_member, none_first}
 use Rattle.pol_events.proofs.Options.{neither}
 use Rattle.pol_history.specs.Answers.{start_rules, rules, answer_of, is_full}
-use Rattle.pol_history.specs.Batches.{start_by, chart_named, is_start}
-use Rattle.pol_history.specs.Looking.{History, past_of_batch, recipes}
+use Rattle.pol_history.specs.Batches.{start_by, chart_named, is_start, started_batch}
+use Rattle.pol_history.specs.Looking.{History, is_accepted, past_of_batch, recipes}
 use Rattle.pol_history.specs.Rules.{batch_known, batches_full, busy_module, role_unbound, role_unknown}
 use Rattle.pol_history.specs.Rules.{one_module_twice, watched_step, steps_in, modules_unfit, busy}
 use Rattle.pol_history.proofs.Accepted.{paired}
@@ -316,7 +317,7 @@ pub start_answered : {Z : Type 0} (history : History) (at : ℕ) (batch name : L
     (runs after : List (List ℕ × PlainRun)) (known : List (List ℕ × Arc Chart Z)) → Mirrors old runs known history →
     is_full history ≡ false →
     lookup (bytes_eq name) known ≡ Some chart → chart_rule old runs batch binds (plain_chart chart.value) ≡ None →
-    Begins batch (plain_chart chart.value) binds old new runs after → length new ≡ length old →
+    Begins batch name (plain_chart chart.value) binds old new runs after → length new ≡ length old →
     Answers history (start at batch name binds) Done new after known
 start_answered history at batch name binds chart old new runs after known mirrors room found none begins count =
     let charted = charted_is history known name chart mirrors.recipes found in
@@ -344,6 +345,9 @@ start_answered history at batch name binds chart old new runs after known mirror
             };
             recipes = known_same history (started at batch name binds) known refl mirrors.recipes;
             starts = begins.count ∙ ap (λ n. n + 1) mirrors.starts ∙ plus_one (length (filter is_start history));
+            order = begins.order ∙ ap (λ batches. batches ++ batch ∷ []) mirrors.order
+                ∙ sym (reverse-append (batch ∷ []) (filter_map (λ entry. cond (is_accepted entry.answer)
+                (started_batch entry.event) None) history));
           });
     }
   where

@@ -3,6 +3,7 @@ use Rattle.std.proofs.Common.{◌≡◌, ℕ, ◌+◌, suc, Bool, true, false, n
 use Rattle.std.proofs.Common.{Err, is_some, refl, ap, sym, ◌∙◌}
 use Rattle.std.specs.Prelude.{⊤, OnOk, if◌then◌else◌, ◌==◌}
 use Rattle.std.proofs.lemmas.Bool.{eqb-true}
+use Rattle.std.specs.Option.{option_or}
 use Rattle.mtp_codes.specs.Faults.{when, first_of, done_unless}
 use Rattle.mtp_desc.specs.Plain.{PlainDescription}
 use Rattle.pol_events.specs.Events.{exchange_end, exchange_cancel}
@@ -11,7 +12,7 @@ use Rattle.pol_events.specs.declared.answer.Answer.{Answer}
 use Rattle.pol_events.specs.declared.answer.Answer.TheVariants.{Done}
 use Rattle.pol_events.specs.declared.answer.Rule.{Rule}
 use Rattle.pol_events.specs.declared.answer.Rule.TheVariants.{WrongTicket}
-use Rattle.pol_history.specs.Answers.{first_rule, answer_of, is_full}
+use Rattle.pol_history.specs.Answers.{first_rule, answer_of, is_full, rules}
 use Rattle.pol_history.specs.Looking.{History, past}
 use Rattle.pol_history.specs.Modules.{Docking, absent, docked, away, docking_by, ticket_of, dockings_by}
 use Rattle.pol_history.specs.Rules.{no_module, not_in_exchange, held_back}
@@ -55,6 +56,27 @@ by_ticket tag given found (docked count) rest there same =
 by_ticket tag given found (away kept) rest there same =
     ap (λ found. done_or_refused (done_unless (first_of (ticket_rule given found ∷ rest)))) same
     ∙ rules_done (wrong_ticket given (Some kept) ∷ rest)
+
+-- so is the first of them, and of one more rule
+rule_by_ticket : (tag : List ℕ) (given : ℕ) (found : Option ℕ) (docking : Docking) (rest : Option Rule) →
+    (docking ≡ absent → ⊥) → found ≡ ticket_of docking →
+    option_or (ticket_rule given found) rest
+    ≡ first_of (no_module tag docking ∷ not_in_exchange docking ∷ wrong_ticket given (ticket_of docking) ∷ rest ∷ [])
+rule_by_ticket tag given found absent rest there same = absurd (there refl)
+rule_by_ticket tag given found (docked count) rest there same =
+    ap (λ found. option_or (ticket_rule given found) rest) same
+rule_by_ticket tag given found (away kept) rest there same =
+    ap (λ found. option_or (ticket_rule given found) rest) same
+    ∙ ap (option_or (wrong_ticket given (Some kept))) (sym (last_or rest))
+
+-- the rules against the end of an exchange, by the slot
+pub end_rules : (history : History) (at : ℕ) (tag : List ℕ) (ticket : ℕ) (description : PlainDescription)
+    (slot : Slot) → SlotKeeps tag slot (past tag history) →
+    option_or (ticket_rule ticket (slot_ticket slot)) (held_back history tag description)
+    ≡ first_of (rules history (exchange_end at tag ticket description))
+end_rules history at tag ticket description slot keeps =
+    rule_by_ticket tag ticket (slot_ticket slot) (docking_by (past tag history)) (held_back history tag description)
+    keeps.is_there keeps.ticket
 
 -- what the slot answers to an end is what the rules say
 pub end_judged : (history : History) (at : ℕ) (tag : List ℕ) (ticket : ℕ) (description : PlainDescription)

@@ -1,6 +1,6 @@
 -- What the slot answers is what the rules of the event's kind say.
-use Rattle.std.proofs.Common.{◌≡◌, ℕ, false, List, [], ◌∷◌, Option, Some, None, refl, ap, sym, ◌∙◌}
-use Rattle.mtp_codes.specs.Faults.{first_of, done_unless}
+use Rattle.std.proofs.Common.{◌≡◌, ℕ, true, false, List, [], ◌∷◌, Option, Some, None, refl, ap, sym, ◌∙◌}
+use Rattle.mtp_codes.specs.Faults.{first_of, done_unless, when}
 use Rattle.mtp_codes.specs.declared.value.Value.{Value}
 use Rattle.mtp_assembly.specs.declared.control.ServiceControl.{ServiceControl}
 use Rattle.pol_events.specs.Events.{PlainEvent, report, variable}
@@ -8,6 +8,7 @@ use Rattle.pol_events.specs.Refusals.{report_rules, variable_rules}
 use Rattle.pol_events.specs.declared.answer.Answer.{Answer}
 use Rattle.pol_events.specs.declared.answer.Answer.TheVariants.{Done, Refused}
 use Rattle.pol_events.specs.declared.answer.Rule.{Rule}
+use Rattle.pol_events.specs.declared.answer.Rule.TheVariants.{HistoryFull}
 use Rattle.pol_history.specs.Answers.{first_rule, rules, otherwise, answer_of, is_full}
 use Rattle.pol_history.specs.Looking.{History, past}
 use Rattle.pol_history.specs.Modules.{Docking, absent, docked, away, docking_by}
@@ -36,6 +37,12 @@ pub ruled : (history : History) (event : PlainEvent) (rule : Option Rule) → is
 ruled history event rule room is =
     with_room history event room ∙ refused_first_is (rules history event) (otherwise history event)
     ∙ ap (λ rule. refuse rule (otherwise history event)) is
+
+-- a full history refuses every event
+pub full_refuses : (history : History) (event : PlainEvent) → is_full history ≡ true →
+    answer_of history event ≡ Refused HistoryFull
+full_refuses history event full =
+    ap (λ full. first_rule (when full HistoryFull ∷ rules history event) (otherwise history event)) full
 
 -- a module that is there meets no rule that it isn't
 pub there_is : (tag : List ℕ) (docking : Docking) → (docking ≡ absent → ⊥) → no_module tag docking ≡ None

@@ -1,8 +1,9 @@
 -- A recipe that is made known.
-use Rattle.std.proofs.Common.{◌≡◌, ℕ, ◌+◌, suc, Bool, true, false, cond, List, [], ◌∷◌, length, Option, Some, None}
+use Rattle.std.proofs.Common.{◌≡◌, ℕ, ◌+◌, suc, Bool, true, false, cond, List, [], ◌∷◌, ◌++◌, length, Option, Some, None}
 use Rattle.std.proofs.Common.{is_some, refl, ap, sym, ◌∙◌, subst, arith}
-use Rattle.std.specs.Prelude.{nat_le, is_none}
-use Rattle.std.specs.Map.{lookup}
+use Rattle.std.specs.Prelude.{nat_le, is_none, filter_map}
+use Rattle.std.proofs.lemmas.List.{reverse-append}
+use Rattle.std.specs.Map.{keys_of, lookup}
 use Rattle.std.specs.Option.{option_map, option_or}
 use Rattle.std.specs.Str.{bytes_eq}
 use Rattle.std.specs.declared.sync.Arc.{Arc}
@@ -30,11 +31,11 @@ use Rattle.pol_table.specs.Rows.{Rows, look}
 use Rattle.pol_runs.specs.Runs.{PlainRun}
 use Rattle.pol_core.specs.Batches.{IsRun}
 use Rattle.pol_core.specs.Mirrors.{Mirrors, Answers}
-use Rattle.pol_core.specs.Recipes.{AreValid, RecipesMirror, AnswersRecipe}
+use Rattle.pol_core.specs.Recipes.{AreValid, RecipesMirror, AnswersRecipe, recipe_brought}
 use Rattle.pol_core.specs.Seats.{IsSeated}
 use Rattle.pol_core.proofs.Counting.{counted_same}
 use Rattle.pol_core.proofs.Used.{recipe_users_same}
-use Rattle.pol_core.proofs.Together.{known_same}
+use Rattle.pol_core.proofs.Together.{batches_same, known_same}
 
 -- a chart without a fault is valid
 valid_is : (chart : PlainChart) → is_valid chart ≡ true → IsValid chart
@@ -124,9 +125,9 @@ module _ {Z : Type 0} where
       → nat_le MOST_RECIPES (length old) ≡ false →
       is_valid (plain_chart kept.value) ≡ true →
       ((other : List ℕ) → lookup (bytes_eq other) new ≡ cond (bytes_eq name other) (Some kept)
-      (lookup (bytes_eq other) old)) → length new ≡ length old + 1 →
+      (lookup (bytes_eq other) old)) → length new ≡ length old + 1 → keys_of new ≡ keys_of old ++ name ∷ [] →
       AnswersRecipe history (recipe at name (plain_chart kept.value)) Done new
-  new_recipe history at name kept old new mirror room fresh few valid looks count =
+  new_recipe history at name kept old new mirror room fresh few valid looks count order =
       record {
         answer_is = sym answer;
         known_is = subst (λ answer. RecipesMirror new
@@ -137,6 +138,9 @@ module _ {Z : Type 0} where
               valid = all_valid;
               count = count
                   ∙ more (length old) (length (recipes history)) mirror.count;
+              order = order ∙ ap (λ names. names ++ name ∷ []) mirror.order
+                  ∙ sym (reverse-append (name ∷ []) (filter_map (λ entry. recipe_brought entry.event)
+                  (recipes history)));
             });
         names = λ other chart is. subst (λ answer. chart_named other
             (recipes (paired (recipe at name (plain_chart kept.value)) answer ∷ history)) ≡ Some chart)
@@ -202,6 +206,7 @@ module _ {Z : Type 0} where
           counted = counted_same history entry rows refl mirrors.counted;
           recipes = takes'.known_is;
           starts = mirrors.starts;
+          order = mirrors.order ∙ sym (batches_same history entry refl);
         };
       }
     where
@@ -217,7 +222,9 @@ module _ {Z : Type 0} where
             batch_is = keeps.batch_is;
             recipe = keeps.recipe;
             binds = keeps.binds;
+            recipe_is = keeps.recipe_is;
             binds_are = keeps.binds_are;
+            held_are = keeps.held_are;
             started = keeps.started;
             charted = takes'.names keeps.recipe (plain_chart kept.chart) keeps.charted;
             follows = keeps.follows;

@@ -13,7 +13,7 @@ use Rattle.pol_slots.specs.Sights.{sight_of, reading_of, slot_sight, slot_readin
 use Rattle.pol_slots.specs.Slots.{slot_ticket, slot_description}
 use Rattle.pol_slots.specs.declared.slot.Slot.{Slot}
 use Rattle.pol_table.specs.Rows.{Row, Rows, look}
-use Rattle.pol_core.specs.Calls.{module_sight}
+use Rattle.pol_core.specs.Calls.{module_sight, module_value}
 use Rattle.pol_core.specs.Seats.{Users, users_of, SlotKeeps, IsSeated, SeatsMirror}
 use Rattle.pol_core.specs.Seen.{slot_sees, slot_reads, tag_sees, tag_reads, table_sights}
 
@@ -37,6 +37,13 @@ pub seen_there : (docking : Docking) (view : Option ServiceView) → (docking �
 seen_there absent view there = absurd (there refl)
 seen_there (docked count) view there = refl
 seen_there (away ticket) view there = refl
+
+-- where the module is there, a value is what it is
+pub value_there : (docking : Docking) (found : Option Value) → (docking ≡ absent → ⊥) →
+    found ≡ module_value docking found
+value_there absent found there = absurd (there refl)
+value_there (docked count) found there = refl
+value_there (away ticket) found there = refl
 
 -- what a slot shows of a service is what its module's past shows
 pub slot_sight_is : (tag service : List ℕ) (slot : Slot) (past : History) → SlotKeeps tag slot past →

@@ -84,7 +84,7 @@ held_there tags rows tag ok among =
 -- the modules of the batch are watched and held, and all else stays
 pub seats_started : (history : History) (at : ℕ) (batch name : List ℕ) (chart : PlainChart)
     (binds : PlainAllocation) (old new : Rows Slot) (runs after : List (List ℕ × PlainRun)) →
-    past_of_batch batch history ≡ [] → Begins batch chart binds old new runs after → SeatsMirror old history →
+    past_of_batch batch history ≡ [] → Begins batch name chart binds old new runs after → SeatsMirror old history →
     SeatsMirror new (started at batch name binds ∷ history)
 seats_started history at batch name chart binds old new runs after fresh begins mirror tag =
     subst (IsSeated tag (look tag new) (past tag (started at batch name binds ∷ history)))
@@ -142,7 +142,7 @@ seats_started history at batch name chart binds old new runs after fresh begins 
 pub runs_started : (history : History) (at : ℕ) (batch name : List ℕ) (chart : PlainChart) (binds : PlainAllocation)
     (old new : Rows Slot) (runs after : List (List ℕ × PlainRun)) →
     past_of_batch batch history ≡ [] → chart_named name (recipes history) ≡ Some chart →
-    Begins batch chart binds old new runs after →
+    Begins batch name chart binds old new runs after →
     RunsMirror runs history → RunsMirror after (started at batch name binds ∷ history)
 runs_started history at batch name chart binds old new runs after fresh charted begins mirror =
     runs_changed history (started at batch name binds) batch begins.run runs after refl refl begins.runs_are
@@ -151,7 +151,9 @@ runs_started history at batch name chart binds old new runs after fresh charted 
       batch_is = begins.is_new.batch_is;
       recipe = name;
       binds = binds;
+      recipe_is = begins.is_new.recipe_is;
       binds_are = begins.is_new.binds_are;
+      held_are = begins.is_new.held_are;
       started = refl;
       charted = charted ∙ ap Some (sym begins.is_new.chart_is);
       follows = begins.is_new.follows;

@@ -1,21 +1,24 @@
 -- All tables after an event.
-use Rattle.std.proofs.Common.{◌≡◌, ℕ, true, false, cond, List, [], ◌∷◌, ◌++◌, None, is_some, refl, ap, sym, ◌∙◌, subst}
+use Rattle.std.proofs.Common.{◌≡◌, ℕ, Bool, true, false, cond, List, [], ◌∷◌, ◌++◌, None, is_some, refl, ap, sym, ◌∙◌, subst}
 use Rattle.std.proofs.Common.{length, ◌<◌, ◌≤◌, arith}
 use Rattle.std.specs.Prelude.{◌&&◌, filter}
 use Rattle.std.proofs.lemmas.Bool.{lt-leb}
-use Rattle.std.specs.Map.{lookup}
+use Rattle.std.specs.List.{cons_option}
+use Rattle.std.specs.Map.{keys_of, lookup}
+use Rattle.std.specs.Prelude.{filter_map, reverse}
+use Rattle.std.proofs.lemmas.Map.Entries.{length-keys_of}
 use Rattle.std.specs.Str.{bytes_eq}
 use Rattle.std.specs.declared.sync.Arc.{Arc}
 use Rattle.mtp_codes.specs.declared.limits.TheConstants.{LONGEST_HISTORY}
 use Rattle.chart_core.specs.declared.chart.Chart.{Chart}
-use Rattle.pol_events.specs.Events.{plain_event, PlainEvent, PlainEntry, plain_history}
+use Rattle.pol_events.specs.Events.{plain_event, PlainEvent, PlainEntry, plain_history, start}
 use Rattle.pol_events.specs.Orderly.{is_orderly}
 use Rattle.pol_events.specs.declared.answer.Answer.{Answer}
 use Rattle.pol_events.specs.declared.event.Entry.{Entry}
 use Rattle.pol_events.specs.declared.event.Event.{Event}
 use Rattle.pol_events.proofs.Histories.{history_pushed, length_history}
 use Rattle.pol_history.specs.Answers.{is_full, answer_of}
-use Rattle.pol_history.specs.Batches.{starting, chart_named, is_start}
+use Rattle.pol_history.specs.Batches.{batches, chart_named, is_start, started_batch, starting}
 use Rattle.pol_history.specs.Looking.{History, of_module, of_batch, subject, is_batch, is_recipe, is_accepted}
 use Rattle.pol_history.specs.Looking.{past_of_batch, recipes}
 use Rattle.pol_history.specs.Runs.{recorded, entry_of}
@@ -29,7 +32,7 @@ use Rattle.pol_runs.specs.Runs.{PlainRun}
 use Rattle.pol_core.specs.Batches.{IsRun, RunsMirror, AnswersBatch}
 use Rattle.pol_core.specs.Histories.{IsPlantHistory}
 use Rattle.pol_core.specs.Mirrors.{Mirrors, Answers}
-use Rattle.pol_core.specs.Recipes.{RecipesMirror}
+use Rattle.pol_core.specs.Recipes.{RecipesMirror, names_in}
 use Rattle.pol_core.specs.Seats.{SeatsMirror, IsCounted, AnswersModule}
 use Rattle.pol_core.proofs.Counting.{counted_same}
 use Rattle.pol_core.proofs.Lasting.{runs_refused}
@@ -57,6 +60,7 @@ known_same history entry known same mirror =
       named = λ name. mirror.named name ∙ ap (chart_named name) (sym same);
       valid = mirror.valid;
       count = mirror.count ∙ ap length (sym same);
+      order = mirror.order ∙ ap names_in (sym same);
     }
 
 -- the count of the starts, where nothing is started
@@ -65,6 +69,22 @@ pub starts_same : (history : History) (entry : PlainEntry) → starting entry.ev
 starts_same history entry unstarted =
     ap (λ found. length (cond (is_some found && is_accepted entry.answer) (entry ∷ filter is_start history)
     (filter is_start history))) unstarted
+
+-- the batches that were started, where nothing is started
+pub batches_same : (history : History) (entry : PlainEntry) → starting entry.event ≡ None →
+    batches (entry ∷ history) ≡ batches history
+batches_same history entry unstarted =
+    ap (λ found. reverse (cons_option found (filter_map (λ entry. cond (is_accepted entry.answer)
+    (started_batch entry.event) None) history)))
+    (go (is_accepted entry.answer) (none entry.event unstarted))
+  where
+    none : (event : PlainEvent) → starting event ≡ None → started_batch event ≡ None
+    none (start at batch name binds) is = cc
+    none _ is = refl
+
+    go : (accepted : Bool) → started_batch entry.event ≡ None → cond accepted (started_batch entry.event) None ≡ None
+    go true is = is
+    go false is = refl
 
 -- all tables after an event of a module
 pub module_answered : {Z : Type 0} (history : History) (event : PlainEvent) (tag : List ℕ) (answer : Answer)
@@ -82,6 +102,7 @@ module_answered history event tag answer old new runs known is unstarted mirrors
         recipes = known_same history (entry_of history event) known
             (module_recipes_same history (entry_of history event) tag is) mirrors.recipes;
         starts = mirrors.starts ∙ sym (starts_same history (entry_of history event) unstarted);
+        order = mirrors.order ∙ sym (batches_same history (entry_of history event) unstarted);
       };
     }
 
@@ -105,15 +126,16 @@ module_kept history old new runs known mirrors seats counted =
       counted = counted;
       recipes = mirrors.recipes;
       starts = mirrors.starts;
+      order = mirrors.order;
     }
 
 -- all tables after an event of a batch that is no start
 pub batch_answered : {Z : Type 0} (history : History) (event : PlainEvent) (batch : List ℕ)
     (answer : Answer) (old new : Rows Slot) (runs after : List (List ℕ × PlainRun))
     (known : List (List ℕ × Arc Chart Z)) → subject event ≡ of_batch batch → starting event ≡ None →
-    Mirrors old runs known history → AnswersBatch history event answer new after → length after ≡ length runs →
+    Mirrors old runs known history → AnswersBatch history event answer new after → keys_of after ≡ keys_of runs →
     Answers history event answer new after known
-batch_answered history event batch answer old new runs after known is unstarted mirrors answers count =
+batch_answered history event batch answer old new runs after known is unstarted mirrors answers names =
     record {
       answer_is = answers.answer_is;
       mirrors = record {
@@ -123,7 +145,9 @@ batch_answered history event batch answer old new runs after known is unstarted 
         recipes = known_same history (entry_of history event) known
             (ap (λ of. cond (is_recipe of && is_accepted (answer_of history event))
             (entry_of history event ∷ recipes history) (recipes history)) is) mirrors.recipes;
-        starts = count ∙ mirrors.starts ∙ sym (starts_same history (entry_of history event) unstarted);
+        starts = sym (length-keys_of after) ∙ ap length names ∙ length-keys_of runs ∙ mirrors.starts
+            ∙ sym (starts_same history (entry_of history event) unstarted);
+        order = names ∙ mirrors.order ∙ sym (batches_same history (entry_of history event) unstarted);
       };
     }
 
@@ -132,12 +156,12 @@ pub batch_told : {Z : Type 0} {history : History} {told : PlainEvent} {answer : 
     {runs after : List (List ℕ × PlainRun)} {known : List (List ℕ × Arc Chart Z)} (event : PlainEvent) (batch : List ℕ)
     →
     event ≡ told → subject event ≡ of_batch batch → starting event ≡ None → Mirrors old runs known history →
-    AnswersBatch history event answer new after → length after ≡ length runs →
+    AnswersBatch history event answer new after → keys_of after ≡ keys_of runs →
     Answers history told answer new after known
 batch_told {Z} {history} {told} {answer} {old} {new} {runs} {after} {known} event batch same is unstarted mirrors
-    answers count =
+    answers names =
     subst (λ told. Answers history told answer new after known) same
-    (batch_answered history event batch answer old new runs after known is unstarted mirrors answers count)
+    (batch_answered history event batch answer old new runs after known is unstarted mirrors answers names)
 
 -- a refused event
 pub refused_all : {Z : Type 0} (history : History) (event : PlainEvent) (answer : Answer) (rows : Rows Slot)
@@ -157,6 +181,7 @@ refused_all history event answer rows runs known is refused mirrors =
         counted = counted_same history entry rows nothing.present mirrors.counted;
         recipes = known_same history entry known nothing.recipes mirrors.recipes;
         starts = mirrors.starts ∙ ap length (sym (starts_refused entry history turned));
+        order = mirrors.order ∙ sym nothing.batches;
       };
     }
 

@@ -1,6 +1,6 @@
 -- What the runs keep of a history: for each batch what looking back gives.
 use Rattle.std.specs.Prelude.{ℕ, ◌≡◌, Bool, false, not, ◌||◌, List, [], ◌∷◌, ◌++◌, Option, Some, None, is_some}
-use Rattle.std.specs.Prelude.{if◌then◌else◌}
+use Rattle.std.specs.Prelude.{length, if◌then◌else◌}
 use Rattle.std.specs.Map.{lookup}
 use Rattle.std.specs.Option.{option_or, option_map}
 use Rattle.std.specs.Str.{bytes_eq}
@@ -35,7 +35,9 @@ pub record RunKeeps (batch : List ℕ) (run : PlainRun) (past recipes : History)
   pub batch_is : run.batch ≡ batch
   pub recipe : List ℕ
   pub binds : PlainAllocation
+  pub recipe_is : run.recipe ≡ recipe
   pub binds_are : run.binds ≡ given binds
+  pub held_are : run.held ≡ length binds.held
   pub started : start_by past ≡ Some (record { recipe = recipe; binds = binds })
   pub charted : chart_named recipe recipes ≡ Some (plain_chart run.chart)
   pub follows : Follows run (log_by past)

@@ -1,11 +1,12 @@
 -- What the tables of a plant keep of its history.
 use Rattle.std.specs.Prelude.{ℕ, ◌≡◌, ◌∷◌, List, length, filter}
+use Rattle.std.specs.Map.{keys_of}
 use Rattle.std.specs.declared.sync.Arc.{Arc}
 use Rattle.chart_core.specs.declared.chart.Chart.{Chart}
 use Rattle.pol_events.specs.Events.{PlainEvent}
 use Rattle.pol_events.specs.declared.answer.Answer.{Answer}
 use Rattle.pol_history.specs.Answers.{answer_of}
-use Rattle.pol_history.specs.Batches.{is_start}
+use Rattle.pol_history.specs.Batches.{batches as started_batches, is_start}
 use Rattle.pol_history.specs.Looking.{History}
 use Rattle.pol_history.specs.Runs.{entry_of}
 use Rattle.pol_slots.specs.declared.slot.Slot.{Slot}
@@ -15,7 +16,8 @@ use Rattle.pol_core.specs.Batches.{RunsMirror}
 use Rattle.pol_core.specs.Recipes.{RecipesMirror}
 use Rattle.pol_core.specs.Seats.{SeatsMirror, IsCounted}
 
--- each tag and each batch has in the tables what looking back gives, and as many modules are there
+-- each tag and each batch has in the tables what looking back gives, as many modules are there, and the runs stand in
+-- the order of their starts
 pub record Mirrors {Z : Type 0} (rows : Rows Slot) (runs : List (List ℕ × PlainRun))
     (known : List (List ℕ × Arc Chart Z)) (history : History) : Type 0 where
   pub seats : SeatsMirror rows history
@@ -23,6 +25,7 @@ pub record Mirrors {Z : Type 0} (rows : Rows Slot) (runs : List (List ℕ × Pla
   pub counted : IsCounted rows history
   pub recipes : RecipesMirror known history
   pub starts : length runs ≡ length (filter is_start history)
+  pub order : keys_of runs ≡ started_batches history
 
 -- the answer is the defined one, and the tables keep the history with it
 pub record Answers {Z : Type 0} (history : History) (event : PlainEvent) (answer : Answer) (rows : Rows Slot)

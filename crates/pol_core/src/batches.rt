@@ -1,7 +1,7 @@
 //! What events of a batch are answered, and what they change in the tables.
 ghost use Rattle.std.specs.Prelude.{◌≡◌, ℕ, ◌∷◌, List, Some, IfOk, IfErr, OnOk, OnErr, ◌&&◌, ◌||◌, not, length};
 ghost use Rattle.std.specs.Prelude.{option_copied};
-ghost use Rattle.std.specs.Map.{lookup};
+ghost use Rattle.std.specs.Map.{keys_of, lookup};
 ghost use Rattle.std.specs.Str.{bytes_eq};
 ghost use Rattle.mtp_codes.specs.Faults.{done_unless, when};
 ghost use Rattle.chart_core.specs.declared.next.Outcome.TheVariants.{Abandoned};
@@ -94,7 +94,7 @@ fn settle(runs: &mut IndexMap<Name, Run>, batch: Name, next: &Next)
     requires known { (run : PlainRun) × (lookup (bytes_eq batch) runs.old.entries ≡ Some run) }
     requires next { (seen : Sights) × ((run : PlainRun) → lookup (bytes_eq batch) runs.old.entries ≡ Some run
         → ComesNext seen next.now run) }
-    ensures count { length runs.new.entries ≡ length runs.old.entries }
+    ensures names { keys_of runs.new.entries ≡ keys_of runs.old.entries }
     ensures settled { (run : PlainRun) → lookup (bytes_eq batch) runs.old.entries ≡ Some run
         → SettlesOne batch next.now run runs.old.entries runs.new.entries }
 {
@@ -117,7 +117,7 @@ fn release_closed(modules: &mut Table<Slot>, batch: Name, next: &Next)
 
 /// A batch does its next entry, waits, or is closed; then its modules are free.
 pub fn advance(modules: &mut Table<Slot>, runs: &mut IndexMap<Name, Run>, batch: Name) -> Answer
-    ensures count { length runs.new.entries ≡ length runs.old.entries }
+    ensures names { keys_of runs.new.entries ≡ keys_of runs.old.entries }
     ensures answered { BatchAnswers (λ at. advance at batch) modules.old runs.old.entries
         result modules.new runs.new.entries }
 {
@@ -133,7 +133,7 @@ pub fn advance(modules: &mut Table<Slot>, runs: &mut IndexMap<Name, Run>, batch:
 // Freezes the run of a batch, and where `hold` is true lets its services be held.
 fn freeze_run(runs: &mut IndexMap<Name, Run>, batch: Name, hold: bool) -> Result<(), Rule>
     requires { (run : PlainRun) × (lookup (bytes_eq batch) runs.old.entries ≡ Some run) }
-    ensures count { length runs.new.entries ≡ length runs.old.entries }
+    ensures names { keys_of runs.new.entries ≡ keys_of runs.old.entries }
     ensures answer { (run : PlainRun) → lookup (bytes_eq batch) runs.old.entries ≡ Some run
         → result
         ≡ done_unless (when (is_frozen run.freeze && (not hold || is_holding run.freeze)) AlreadyFrozen) }
@@ -150,7 +150,7 @@ fn freeze_run(runs: &mut IndexMap<Name, Run>, batch: Name, hold: bool) -> Result
 
 /// A batch waits until it is thawed, and where `hold` is true its services are held meanwhile.
 pub fn freeze(runs: &mut IndexMap<Name, Run>, batch: Name, hold: bool) -> Answer
-    ensures count { length runs.new.entries ≡ length runs.old.entries }
+    ensures names { keys_of runs.new.entries ≡ keys_of runs.old.entries }
     ensures answered { (modules : Rows slot_type) → BatchAnswers (λ at. freeze at batch hold) modules runs.old.entries
         result modules runs.new.entries }
 {
@@ -163,7 +163,7 @@ pub fn freeze(runs: &mut IndexMap<Name, Run>, batch: Name, hold: bool) -> Answer
 // Ends the freeze of the run of a batch.
 fn thaw_run(runs: &mut IndexMap<Name, Run>, batch: Name) -> Result<(), Rule>
     requires { (run : PlainRun) × (lookup (bytes_eq batch) runs.old.entries ≡ Some run) }
-    ensures count { length runs.new.entries ≡ length runs.old.entries }
+    ensures names { keys_of runs.new.entries ≡ keys_of runs.old.entries }
     ensures answer { (run : PlainRun) → lookup (bytes_eq batch) runs.old.entries ≡ Some run
         → result ≡ done_unless (when (not (is_frozen run.freeze)) NotFrozen) }
     ensures changed { (run : PlainRun) → lookup (bytes_eq batch) runs.old.entries ≡ Some run
@@ -177,7 +177,7 @@ fn thaw_run(runs: &mut IndexMap<Name, Run>, batch: Name) -> Result<(), Rule>
 
 /// A batch that is frozen goes on.
 pub fn thaw(runs: &mut IndexMap<Name, Run>, batch: Name) -> Answer
-    ensures count { length runs.new.entries ≡ length runs.old.entries }
+    ensures names { keys_of runs.new.entries ≡ keys_of runs.old.entries }
     ensures answered { (modules : Rows slot_type) → BatchAnswers (λ at. thaw at batch) modules runs.old.entries
         result modules runs.new.entries }
 {
@@ -190,7 +190,7 @@ pub fn thaw(runs: &mut IndexMap<Name, Run>, batch: Name) -> Answer
 // Lets the run of a batch be stopped step by step; true where that is new.
 fn stop_run(runs: &mut IndexMap<Name, Run>, batch: Name) -> bool
     requires { (run : PlainRun) × (lookup (bytes_eq batch) runs.old.entries ≡ Some run) }
-    ensures count { length runs.new.entries ≡ length runs.old.entries }
+    ensures names { keys_of runs.new.entries ≡ keys_of runs.old.entries }
     ensures stopped { (run : PlainRun) → lookup (bytes_eq batch) runs.old.entries ≡ Some run
         → StopsOne batch result run runs.old.entries runs.new.entries }
 {
@@ -202,7 +202,7 @@ fn stop_run(runs: &mut IndexMap<Name, Run>, batch: Name) -> bool
 
 /// A batch is to be stopped step by step. Its freeze ends, whether that is new or not.
 pub fn stop(runs: &mut IndexMap<Name, Run>, batch: Name) -> Answer
-    ensures count { length runs.new.entries ≡ length runs.old.entries }
+    ensures names { keys_of runs.new.entries ≡ keys_of runs.old.entries }
     ensures answered { (modules : Rows slot_type) → BatchAnswers (λ at. stop_batch at batch) modules runs.old.entries
         result modules runs.new.entries }
 {
@@ -219,7 +219,7 @@ pub fn stop(runs: &mut IndexMap<Name, Run>, batch: Name) -> Answer
 // Closes the run of a batch.
 fn give_up(runs: &mut IndexMap<Name, Run>, batch: Name)
     requires { (run : PlainRun) × (lookup (bytes_eq batch) runs.old.entries ≡ Some run) }
-    ensures count { length runs.new.entries ≡ length runs.old.entries }
+    ensures names { keys_of runs.new.entries ≡ keys_of runs.old.entries }
     ensures changed { (run : PlainRun) → lookup (bytes_eq batch) runs.old.entries ≡ Some run
         → ChangesRun batch (record run { outcome = Some Abandoned }) runs.old.entries runs.new.entries }
 {
@@ -231,7 +231,7 @@ fn give_up(runs: &mut IndexMap<Name, Run>, batch: Name)
 
 /// A batch is given up where it stands, and its modules are free.
 pub fn abandon(modules: &mut Table<Slot>, runs: &mut IndexMap<Name, Run>, batch: Name) -> Answer
-    ensures count { length runs.new.entries ≡ length runs.old.entries }
+    ensures names { keys_of runs.new.entries ≡ keys_of runs.old.entries }
     ensures answered { BatchAnswers (λ at. abandon at batch) modules.old runs.old.entries
         result modules.new runs.new.entries }
 {

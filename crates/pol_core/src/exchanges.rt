@@ -1,5 +1,5 @@
 //! Modules that are exchanged.
-ghost use Rattle.std.specs.Prelude.{◌≡◌, ℕ, [], ◌∷◌, map, Some, None, IfOk, OnOk, OnErr, option_map, option_and_then};
+ghost use Rattle.std.specs.Prelude.{◌≡◌, ℕ, false, [], ◌∷◌, map, Some, None, IfOk, OnOk, OnErr, option_map, option_and_then};
 ghost use Rattle.mtp_codes.specs.Faults.{first_of, done_unless};
 ghost use Rattle.mtp_desc.specs.PlainDescription.{plain_description};
 ghost use Rattle.mtp_procs.specs.Covers.{cover_fault, missing_by};
@@ -7,7 +7,7 @@ ghost use Rattle.chart_core.specs.Charts.{plain_chart};
 ghost use Rattle.chart_cursor.specs.Logs.{active};
 ghost use Rattle.pol_events.specs.Bound.{bound_role, step_on, ArePaired};
 ghost use Rattle.pol_events.specs.Events.{exchange_begin, exchange_end, exchange_cancel};
-ghost use Rattle.pol_history.specs.Answers.{rules};
+ghost use Rattle.pol_history.specs.Answers.{answer_of, is_full, rules};
 ghost use Rattle.pol_history.specs.Looking.{History};
 ghost use Rattle.pol_history.specs.Rules.{active_step, held_back};
 ghost use Rattle.pol_slots.specs.Refused.{ticket_rule};
@@ -16,10 +16,11 @@ ghost use Rattle.pol_slots.specs.declared.slot.Slot.{Slot as slot_type};
 ghost use Rattle.pol_table.specs.Rows.{holder_of, part_of, watchers_of};
 ghost use Rattle.pol_runs.specs.Logs.{Follows};
 ghost use Rattle.pol_core.specs.Batches.{ModuleAnswersBeside, RunsMirror};
+ghost use Rattle.pol_core.specs.Calls.{ticket_answer};
 ghost use Rattle.pol_core.specs.Exchanges.{HaveBegunFew, IsDockedAt, SendsAway, lacks};
 ghost use Rattle.pol_core.specs.Seats.{IsCounted, ModuleAnswers, SeatsMirror};
 
-use crate::modules::done_or_refused;
+use crate::modules::{done_or_refused, next_ticket};
 use indexmap::IndexMap;
 use mtp_codes::Name;
 use mtp_desc::Description;
@@ -58,6 +59,23 @@ pub fn begin_rule(modules: &Table<Slot>, runs: &IndexMap<Name, Run>, tag: Name) 
         return Some(rule);
     }
     slot.at_rest().err()
+}
+
+/// The ticket that the begin of an exchange would be answered with, or the rule that it would be refused by, while the
+/// history has room. Takes no memory.
+pub fn begin_ticket(
+    modules: &Table<Slot>,
+    runs: &IndexMap<Name, Run>,
+    tag: Name,
+) -> Result<u32, Rule>
+    requires few { HaveBegunFew modules.now }
+    ensures { (history : History) (at : ℕ) → SeatsMirror modules.now history → RunsMirror runs.now.entries history
+        → is_full history ≡ false → ticket_answer result ≡ answer_of history (exchange_begin at tag) }
+{
+    match begin_rule(modules, runs, tag) {
+        Some(rule) => Err(rule),
+        None => Ok(next_ticket(modules, tag)),
+    }
 }
 
 // Sends the module away that is docked under the tag.
@@ -157,6 +175,26 @@ fn held_back(
     match held_back_by_holder(modules, runs, tag, desc) {
         Some(rule) => Some(rule),
         None => held_back_by_watcher(modules, runs, tag, desc),
+    }
+}
+
+/// The rule that the end of an exchange would be refused by, while the history has room. Takes no memory.
+pub fn end_rule(
+    modules: &Table<Slot>,
+    runs: &IndexMap<Name, Run>,
+    tag: Name,
+    ticket: u32,
+    desc: &Description,
+) -> Option<Rule>
+    ensures { (history : History) (at : ℕ) → SeatsMirror modules.now history → RunsMirror runs.now.entries history
+        → result ≡ first_of (rules history (exchange_end at tag ticket (plain_description desc.now))) }
+{
+    let Some(slot) = modules.get(tag) else {
+        return Some(Rule::NoModule { tag });
+    };
+    match slot.ticket_rule(ticket) {
+        Some(rule) => Some(rule),
+        None => held_back(modules, runs, tag, desc),
     }
 }
 

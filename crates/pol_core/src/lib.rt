@@ -18,8 +18,12 @@ mod plant;
 mod recipes;
 mod seen;
 mod settings;
+mod standing;
+mod started;
 mod starting;
 
 pub use commands::Sent;
 pub use docking::Docking;
 pub use plant::Plant;
+pub use standing::Standing;
+pub use started::Started;

@@ -1,12 +1,13 @@
 //! What events of a module are answered, and what they change in the table of modules.
-ghost use Rattle.std.specs.Prelude.{◌≡◌, ◌≢◌, ℕ, Some, IfOk, IfNone, IfSome, OnErr, slice_get};
+ghost use Rattle.std.specs.Prelude.{◌≡◌, ◌≢◌, ℕ, Some, IfOk, IfNone, IfSome, OnErr, length, slice_get};
 ghost use Rattle.mtp_desc.specs.PlainDescription.{plain_description};
 ghost use Rattle.pol_events.specs.Events.{plug, unplug, report, variable, desk};
-ghost use Rattle.pol_history.specs.Batches.{holder_of};
-ghost use Rattle.pol_history.specs.Looking.{History};
-ghost use Rattle.pol_history.specs.Modules.{absent, description_of, docking_of, present_tags, view_of};
-ghost use Rattle.pol_core.specs.Calls.{module_sight, plain_docking};
-ghost use Rattle.pol_core.specs.Exchanges.{HaveBegunFew};
+ghost use Rattle.pol_history.specs.Batches.{holder_of, watchers_of};
+ghost use Rattle.pol_history.specs.Looking.{History, past};
+ghost use Rattle.pol_history.specs.Modules.{absent, description_of, docking_of, next_ticket, present_tags, value_by};
+ghost use Rattle.pol_history.specs.Modules.{view_of};
+ghost use Rattle.pol_core.specs.Calls.{module_sight, module_value, plain_docking};
+ghost use Rattle.pol_core.specs.Exchanges.{HaveBegunFew, IsDockedAt};
 ghost use Rattle.pol_core.specs.Seats.{IsCounted, ModuleAnswers, SeatsMirror, asked_answer, done_or_refused};
 ghost use Rattle.pol_core.specs.Seats.{slot_asked};
 ghost use Rattle.pol_table.specs.ByteOrder.{in_byte_order};
@@ -181,4 +182,48 @@ pub fn holder(modules: &Table<Slot>, tag: Name) -> Option<Name>
     ensures { (history : History) → SeatsMirror modules.now history → result ≡ holder_of history tag }
 {
     modules.holder(tag)
+}
+
+/// The batch that watches the module, at this place, from 0, in the order in which they began to watch.
+pub fn watcher(modules: &Table<Slot>, tag: Name, place: u32) -> Option<Name>
+    ensures { (history : History) → SeatsMirror modules.now history
+        → result ≡ slice_get (watchers_of history tag) place }
+{
+    modules.watcher(tag, place)
+}
+
+/// How many modules are docked or away.
+pub fn module_count(modules: &Table<Slot>) -> u32
+    ensures { (history : History) → IsCounted modules.now history → result ≡ length (present_tags history) }
+{
+    modules.len()
+}
+
+/// The tags that are docked or away, in byte order.
+pub fn tags(alloc: Global, modules: &Table<Slot>) -> Result<Vec<Name>, AllocError>
+    ensures { IfOk result (λ tags. (history : History) → IsCounted modules.now history
+        → tags.items ≡ in_byte_order (present_tags history)) }
+{
+    modules.tags(alloc)
+}
+
+/// The value that the variable was reported with last since its module was docked.
+pub fn value(modules: &Table<Slot>, tag: Name, variable: Name) -> Option<Value>
+    ensures { (history : History) → SeatsMirror modules.now history
+        → result ≡ module_value (docking_of history tag) (value_by variable (past tag history)) }
+{
+    let slot = modules.get(tag)?;
+    slot.value(variable)
+}
+
+/// The ticket of the next exchange of a module that is docked.
+pub fn next_ticket(modules: &Table<Slot>, tag: Name) -> u32
+    requires docked { IsDockedAt tag modules.now }
+    requires few { HaveBegunFew modules.now }
+    ensures { (history : History) → SeatsMirror modules.now history → result ≡ next_ticket (past tag history) }
+{
+    match modules.get(tag) {
+        Some(slot) => slot.begins() + 1,
+        None => unreachable!(),
+    }
 }

@@ -1,29 +1,36 @@
 //! The plant, seen as its entries and the room for more.
 ghost use Rattle.std.specs.Prelude.{◌≡◌, ◌≢◌, ℕ, ◌<◌, ◌≤◌, ◌+◌, ◌++◌, ◌∷◌, [], drop, length, map, option_copied};
 ghost use Rattle.std.specs.Prelude.{slice_get, Some, IfNone, IfSome, IfOk, IfErr, IsOk, IsTrue, OnOk, OnErr, vec_len};
-ghost use Rattle.std.specs.Prelude.{vec_capacity};
+ghost use Rattle.std.specs.Prelude.{is_some, option_map, vec_capacity};
 ghost use Rattle.mtp_desc.specs.PlainDescription.{plain_description};
-ghost use Rattle.pol_events.specs.Events.{plain_entry, plain_event, plain_history, exchange_begin, start};
+ghost use Rattle.pol_events.specs.Events.{plain_entry, plain_event, plain_history, exchange_begin, exchange_end};
+ghost use Rattle.pol_events.specs.Events.{start};
 ghost use Rattle.pol_events.specs.Orderly.{is_orderly};
 ghost use Rattle.pol_history.specs.Answers.{answer_of};
-ghost use Rattle.pol_history.specs.Batches.{holder_of};
-ghost use Rattle.pol_history.specs.Modules.{absent, description_of, docking_of, present_tags, view_of};
+ghost use Rattle.pol_history.specs.Batches.{batches, chart_named, holder_of, start_of, watchers_of};
+ghost use Rattle.pol_history.specs.Looking.{past, recipes};
+ghost use Rattle.pol_history.specs.Modules.{absent, description_of, docking_of, present_tags, value_by, view_of};
 ghost use Rattle.pol_history.specs.Runs.{entry_of, recorded, IsLegal, IsOrderly};
-ghost use Rattle.pol_core.specs.Calls.{module_sight, open_next, plain_docking, refusal, settings_of, refused_first};
+ghost use Rattle.pol_core.specs.Calls.{module_sight, module_value, open_next, plain_docking, plain_started, refusal};
+ghost use Rattle.pol_core.specs.Calls.{refused_first, settings_of, standing_of, ticket_answer};
 ghost use Rattle.pol_core.specs.Commands.{next_sent};
 ghost use Rattle.pol_core.specs.Plants.{is_spared, plant_history};
+ghost use Rattle.pol_core.specs.Recipes.{names_in};
 ghost use Rattle.pol_table.specs.ByteOrder.{in_byte_order};
 
 use crate::answering::answer_event;
 use crate::commands::{self, Sent};
 use crate::docking::Docking;
-use crate::exchanges::begin_rule;
+use crate::exchanges::{begin_rule, begin_ticket, end_rule};
+use crate::recipes::{knows_recipe, recipe_at, recipe_count};
+use crate::standing::{Standing, batch_standing};
+use crate::started::{Started, batch_at, batch_start};
 use crate::starting::start_rule;
 use crate::{batches, modules};
 use chart_core::{Chart, Next};
 use chart_cursor::Sight;
 use indexmap::IndexMap;
-use mtp_codes::{LONGEST_HISTORY, Name, Setting};
+use mtp_codes::{LONGEST_HISTORY, Name, Setting, Value};
 use mtp_desc::Description;
 use pol_events::{Allocation, Answer, Bind, Entry, Event, Rule};
 use pol_runs::Run;
@@ -202,6 +209,29 @@ impl Plant {
         unless_refused(&self.history, begin_rule(&self.modules, &self.runs, tag))
     }
 
+    /// The ticket that the begin of an exchange would be answered with.
+    ///
+    /// # Errors
+    ///
+    /// The rule that it would be refused by.
+    pub fn would_get_ticket(&self, tag: Name) -> Result<u32, Rule>
+        ensures { (at : ℕ) → ticket_answer result ≡ answer_of (plant_history self.now) (exchange_begin at tag) }
+    {
+        if self.history.len() >= LONGEST_HISTORY {
+            return Err(Rule::HistoryFull);
+        }
+        begin_ticket(&self.modules, &self.runs, tag)
+    }
+
+    /// The rule that the end of an exchange would be refused by. Takes no memory.
+    pub fn would_end(&self, tag: Name, ticket: u32, desc: &Description) -> Result<(), Rule>
+        ensures { (at : ℕ) → result ≡ refusal (answer_of (plant_history self.now)
+            (exchange_end at tag ticket (plain_description desc.now))) }
+    {
+        let rule = end_rule(&self.modules, &self.runs, tag, ticket, desc);
+        unless_refused(&self.history, rule)
+    }
+
     /// The first command to the module in the history from a place on, with the place after it; or None with the
     /// history's length. Places are counted from 0. Looks at no entry before the place, and takes no memory.
     pub fn next_command(&self, tag: Name, place: u32) -> (Option<Sent>, u32)
@@ -224,6 +254,24 @@ impl Plant {
         ensures { result ≡ slice_get (in_byte_order (present_tags (plant_history self.now))) place }
     {
         modules::tag_at(&self.modules, place)
+    }
+
+    /// How many modules are docked or away: at most 64.
+    pub fn module_count(&self) -> u32
+        ensures { result ≡ length (present_tags (plant_history self.now)) }
+    {
+        modules::module_count(&self.modules)
+    }
+
+    /// The tags that are docked or away, in byte order, at once.
+    ///
+    /// # Errors
+    ///
+    /// AllocError where memory is wanting for them.
+    pub fn tags(&self, alloc: Global) -> Result<Vec<Name>, AllocError>
+        ensures { IfOk result (λ tags. tags.items ≡ in_byte_order (present_tags (plant_history self.now))) }
+    {
+        modules::tags(alloc, &self.modules)
     }
 
     /// Whether the tag is docked: if so, how often it was since the last plug, that plug included; or away, with its
@@ -257,6 +305,65 @@ impl Plant {
         ensures { result ≡ holder_of (plant_history self.now) tag }
     {
         modules::holder(&self.modules, tag)
+    }
+
+    /// The batch that watches the module, at this place, from 0, in the order in which they began to watch; None from
+    /// their number on.
+    pub fn watcher(&self, tag: Name, place: u32) -> Option<Name>
+        ensures { result ≡ slice_get (watchers_of (plant_history self.now) tag) place }
+    {
+        modules::watcher(&self.modules, tag, place)
+    }
+
+    /// The value that the variable was reported with last since its module was docked; None where it wasn't.
+    pub fn value(&self, tag: Name, variable: Name) -> Option<Value>
+        ensures { result ≡ module_value (docking_of (plant_history self.now) tag)
+            (value_by variable (past tag (plant_history self.now))) }
+    {
+        modules::value(&self.modules, tag, variable)
+    }
+
+    /// Whether a recipe of this name is known.
+    pub fn knows_recipe(&self, recipe: Name) -> bool
+        ensures { result ≡ is_some (chart_named recipe (recipes (plant_history self.now))) }
+    {
+        knows_recipe(&self.recipes, recipe)
+    }
+
+    /// How many recipes are known: at most 64.
+    pub fn recipe_count(&self) -> usize
+        ensures { result ≡ length (recipes (plant_history self.now)) }
+    {
+        recipe_count(&self.recipes)
+    }
+
+    /// The name of the recipe at this place, from 0, in the order in which they were made known; None from their number
+    /// on.
+    pub fn recipe_at(&self, place: u32) -> Option<Name>
+        ensures { result ≡ slice_get (names_in (recipes (plant_history self.now))) place }
+    {
+        recipe_at(&self.recipes, place)
+    }
+
+    /// The batch at this place, from 0, in the order of their starts; None from their number on.
+    pub fn batch_at(&self, place: u32) -> Option<Name>
+        ensures { result ≡ slice_get (batches (plant_history self.now)) place }
+    {
+        batch_at(&self.runs, place)
+    }
+
+    /// How a batch stands; None exactly where it wasn't started.
+    pub fn standing(&self, batch: Name) -> Option<Standing>
+        ensures { result ≡ standing_of (plant_history self.now) batch }
+    {
+        batch_standing(&self.runs, batch)
+    }
+
+    /// What a batch was started with; None exactly where it wasn't started.
+    pub fn started(&self, batch: Name) -> Option<Started<'_>>
+        ensures { option_map plain_started result ≡ start_of (plant_history self.now) batch }
+    {
+        batch_start(&self.runs, batch)
     }
 
     /// The entries of the history, the oldest first.

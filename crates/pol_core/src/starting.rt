@@ -1,8 +1,8 @@
 //! A batch that is started: its modules are held, and its run is kept.
 ghost use Rattle.std.specs.Prelude.{◌≡◌, ℕ, ◌+◌, length, List, None, Some, Ok, true, false, IfOk, IsSome, OnOk, OnErr};
-ghost use Rattle.std.specs.Prelude.{◌<◌, if◌then◌else◌};
+ghost use Rattle.std.specs.Prelude.{◌<◌, ◌++◌, ◌∷◌, [], if◌then◌else◌};
 ghost use Rattle.std.specs.List.{IsDistinct};
-ghost use Rattle.std.specs.Map.{lookup};
+ghost use Rattle.std.specs.Map.{keys_of, lookup};
 ghost use Rattle.std.specs.Str.{bytes_eq};
 ghost use Rattle.mtp_codes.specs.Faults.{first_of};
 ghost use Rattle.mtp_codes.specs.Names.{is_among};
@@ -69,16 +69,18 @@ fn all_binds(alloc: Global, binds: Allocation<'_>) -> Result<Vec<Bind>, AllocErr
 fn prepare(
     alloc: Global,
     batch: Name,
+    recipe: Name,
     chart: &Arc<Chart>,
     binds: Allocation<'_>,
 ) -> Result<Run, AllocError>
     requires valid { IsValid (plain_chart chart.now.value) }
     requires paired { ArePaired (given (plain_allocation binds)) }
-    ensures { IfOk result (IsNew batch (plain_chart chart.now.value) (given (plain_allocation binds.entry))) }
+    ensures { IfOk result (IsNew batch recipe (plain_chart chart.now.value) (plain_allocation binds.entry)) }
 {
     let chart = chart.clone()?;
-    let binds = all_binds(alloc, binds)?;
-    Run::new(alloc, batch, chart, binds)
+    let held = binds.held.len();
+    let all = all_binds(alloc, binds)?;
+    Run::of_recipe(alloc, batch, recipe, chart, all, held)
 }
 
 // Keeps the run of a batch, where the map has room for it.
@@ -88,6 +90,7 @@ fn enter(runs: &mut IndexMap<Name, Run>, batch: Name, run: Run)
     ensures looks { (other : List ℕ) → lookup (bytes_eq other) runs.new.entries
         ≡ (if bytes_eq batch other then Some run else lookup (bytes_eq other) runs.old.entries) }
     ensures count { length runs.new.entries ≡ length runs.old.entries + 1 }
+    ensures order { keys_of runs.new.entries ≡ keys_of runs.old.entries ++ batch ∷ [] }
 {
     if runs.insert(batch, run).is_err() {
         unreachable!();
@@ -124,6 +127,7 @@ fn begin(
     modules: &mut Table<Slot>,
     runs: &mut IndexMap<Name, Run>,
     batch: Name,
+    recipe: Name,
     chart: &Arc<Chart>,
     binds: Allocation<'_>,
 ) -> Result<(), AllocError>
@@ -133,7 +137,7 @@ fn begin(
     requires distinct { IsDistinct bytes_eq (tags_of binds.watched.now) }
     requires free { hold_answer (tags_of binds.held.now) modules.old ≡ Ok tt }
     requires new { lookup (bytes_eq batch) runs.old.entries ≡ None }
-    ensures begun { OnOk result (Begins batch (plain_chart chart.now.value) (plain_allocation binds.entry)
+    ensures begun { OnOk result (Begins batch recipe (plain_chart chart.now.value) (plain_allocation binds.entry)
         modules.old modules.new runs.old.entries runs.new.entries) }
     ensures count { length modules.new ≡ length modules.old }
     ensures modules { OnErr result (modules.new ≡ modules.old) }
@@ -141,7 +145,7 @@ fn begin(
 {
     let held = tags_of(alloc, binds.held)?;
     let watched = tags_of(alloc, binds.watched)?;
-    let run = prepare(alloc, batch, chart, binds)?;
+    let run = prepare(alloc, batch, recipe, chart, binds)?;
     runs.reserve(1)?;
     watch(modules, &watched, batch)?;
     hold(modules, &held, batch);
@@ -215,6 +219,6 @@ pub fn start(
     if let Some(rule) = chart_rule(modules, runs, batch, chart, binds) {
         return Ok(Answer::Refused(rule));
     }
-    begin(alloc, modules, runs, batch, chart, binds)?;
+    begin(alloc, modules, runs, batch, name, chart, binds)?;
     Ok(Answer::Done)
 }

@@ -9,12 +9,14 @@ use Rattle.pol_runs.specs.declared.freeze.Freeze.{Freeze}
 use Rattle.pol_runs.specs.declared.course.Course.{Course}
 use Rattle.pol_runs.specs.declared.course.Course.TheVariants.{Running, Breaking, Stopping}
 
--- a batch with its chart, its binds, how far each node has come, which steps were held, and whether it is frozen,
--- stopped or closed
+-- a batch with its recipe and the chart of that, its binds, of which the first ones, so many, are of modules that it
+-- holds, how far each node has come, which steps were held, and whether it is frozen, stopped or closed
 pub record PlainRun : Type 0 where
   pub batch : List ℕ
+  pub recipe : List ℕ
   pub chart : Chart
   pub binds : List Bind
+  pub held : ℕ
   pub marks : List Progress
   pub holds : PlainHolds
   pub freeze : Freeze
@@ -39,8 +41,10 @@ from_of Running = 0
 from_of (Breaking from) = from
 from_of (Stopping from) = from
 
--- the same batch with the same chart and binds
+-- the same batch with the same recipe, chart and binds
 pub record SameBatch (old new : PlainRun) : Type 0 where
   pub batch : new.batch ≡ old.batch
+  pub recipe : new.recipe ≡ old.recipe
   pub chart : new.chart ≡ old.chart
   pub binds : new.binds ≡ old.binds
+  pub held : new.held ≡ old.held

@@ -1,6 +1,6 @@
 //! One batch.
 ghost use Rattle.std.specs.Prelude.{◌≡◌, ◌&&◌, ◌||◌, ◌++◌, ◌∷◌, [], not, ℕ, List, Some, None, IfOk, OnErr, OnOk};
-ghost use Rattle.std.specs.Prelude.{option_map, if◌then◌else◌};
+ghost use Rattle.std.specs.Prelude.{drop, option_map, take, if◌then◌else◌};
 ghost use Rattle.std.specs.Option.{option_or};
 ghost use Rattle.mtp_codes.specs.Faults.{when, done_unless};
 ghost use Rattle.chart_core.specs.Active.{active_steps};
@@ -36,7 +36,9 @@ use std::sync::Arc;
 #[derive(Drop)]
 pub struct Run {
     batch: Name,
+    recipe: Name,
     binds: Vec<Bind>,
+    held: usize,
     cursor: Cursor,
     holds: Holds,
     freeze: Freeze,
@@ -69,8 +71,10 @@ impl Model for Run {
 
     ghost view = { λ run. record {
       batch = run.batch;
+      recipe = run.recipe;
       chart = run.cursor.chart;
       binds = run.binds.items;
+      held = run.held;
       marks = run.cursor.marks;
       holds = run.holds;
       freeze = run.freeze;
@@ -80,8 +84,10 @@ impl Model for Run {
 
     ghost invariant = { λ run. IsSoundRun (record {
       batch = run.batch;
+      recipe = run.recipe;
       chart = run.cursor.chart;
       binds = run.binds.items;
+      held = run.held;
       marks = run.cursor.marks;
       holds = run.holds;
       freeze = run.freeze;
@@ -91,8 +97,8 @@ impl Model for Run {
 }
 
 impl Run {
-    /// A batch of a valid chart that was just started on these modules: it stands for the empty log. No role is bound
-    /// twice, and no tag.
+    /// A batch of a valid chart that was just started on these modules, all of which it holds: it stands for the empty
+    /// log. Its recipe has the name of the batch. No role is bound twice, and no tag.
     ///
     /// # Errors
     ///
@@ -113,11 +119,43 @@ impl Run {
         ensures empty { IfOk result (λ run. Follows run []) }
         ensures unasked { IfOk result (λ run. Asks run []) }
     {
+        let held = binds.len();
+        Run::of_recipe(alloc, batch, batch, chart, binds, held)
+    }
+
+    /// A batch of a recipe with this valid chart that was just started on these modules, of which it holds the first
+    /// ones, `held` many, and watches the others: it stands for the empty log. No role is bound twice, and no tag.
+    ///
+    /// # Errors
+    ///
+    /// AllocError where memory is wanting for one mark, one size and two flags for each node.
+    pub fn of_recipe(
+        alloc: Global,
+        batch: Name,
+        recipe: Name,
+        chart: Arc<Chart>,
+        binds: Vec<Bind>,
+        held: usize,
+    ) -> Result<Run, AllocError>
+        requires valid { IsValid (plain_chart chart.value) }
+        requires paired { ArePaired binds.items }
+        ensures batch { IfOk result (λ run. run.batch ≡ batch) }
+        ensures recipe { IfOk result (λ run. run.recipe ≡ recipe) }
+        ensures chart { IfOk result (λ run. run.chart ≡ chart.value) }
+        ensures binds { IfOk result (λ run. run.binds ≡ binds.items) }
+        ensures held { IfOk result (λ run. run.held ≡ held) }
+        ensures thawed { IfOk result (λ run. run.freeze ≡ Thawed) }
+        ensures open { IfOk result (λ run. run.outcome ≡ None) }
+        ensures empty { IfOk result (λ run. Follows run []) }
+        ensures unasked { IfOk result (λ run. Asks run []) }
+    {
         let holds = Holds::new(alloc, &chart)?;
         let cursor = Cursor::new(alloc, chart)?;
         Ok(Run {
             batch,
+            recipe,
             binds,
+            held,
             cursor,
             holds,
             freeze: Freeze::Thawed,
@@ -306,6 +344,23 @@ impl Run {
         self.freeze.is_holding()
     }
 
+    /// Whether the batch broke, or is to be stopped step by step.
+    pub fn is_stopping(&self) -> bool
+        ensures { (log : List LogEntry) → Follows self.now log → result ≡ has_broken log || was_stopped log }
+    {
+        match self.course {
+            Course::Running => false,
+            Course::Breaking { .. } | Course::Stopping { .. } => true,
+        }
+    }
+
+    /// The name of its recipe.
+    pub fn recipe(&self) -> Name
+        ensures { result ≡ self.now.recipe }
+    {
+        self.recipe
+    }
+
     /// The chart of its recipe.
     pub fn chart(&self) -> &Arc<Chart>
         ensures chart { result.now.value ≡ self.now.chart }
@@ -320,6 +375,20 @@ impl Run {
         ensures paired { ArePaired self.now.binds }
     {
         &self.binds
+    }
+
+    /// Which modules that it holds play its roles.
+    pub fn held(&self) -> &[Bind]
+        ensures { result.now ≡ take self.now.held self.now.binds }
+    {
+        &self.binds[..self.held.min(self.binds.len())]
+    }
+
+    /// Which modules that it only watches play its roles.
+    pub fn watched(&self) -> &[Bind]
+        ensures { result.now ≡ drop self.now.held self.now.binds }
+    {
+        &self.binds[self.held.min(self.binds.len())..]
     }
 
     /// The first active step of the role in chart order; None where there is none. Walks the chart's nodes once, and

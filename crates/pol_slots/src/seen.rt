@@ -23,9 +23,10 @@ impl Slot {
         self.berth.control(service)?
     }
 
-    // The value that the variable was reported with last since docking.
+    /// The value that the variable was reported with last since docking; None where it wasn't, and while the module is
+    /// away.
     #[tactic(auto, unfolding(crate::specs::Slots::last_value))]
-    fn value(&self, name: Name) -> Option<Value>
+    pub fn value(&self, name: Name) -> Option<Value>
         ensures { result ≡ last_value self.now name }
     {
         self.berth.value(name)?

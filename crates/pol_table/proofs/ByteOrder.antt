@@ -1,21 +1,26 @@
 -- Tags in byte order: the order has each tag once, and a tag stands at the place that counts those before it.
-use Rattle.std.proofs.Common.{◌≡◌, ℕ, zero, suc, ◌≤◌, ◌==◌, arith, Bool, true, false, cond, ◌||◌, List, [], ◌∷◌, length, Option, Some, None, refl, sym, ap, ◌∙◌, true≢false, eq-eqb}
+use Rattle.std.proofs.Common.{◌≡◌, ℕ, zero, suc, ◌≤◌, ◌==◌, arith, Bool, true, false, cond, ◌||◌, List, [], ◌∷◌, length, Option, Some, None, refl, sym, ap, subst, ◌∙◌, true≢false, eq-eqb}
 use Rattle.std.specs.Prelude.{filter, find, slice_get}
 use Rattle.std.specs.BTreeSet.{insert_key}
 use Rattle.std.specs.Cmp.Lexicographic.{slice_cmp}
-use Rattle.std.specs.List.{AllByRecursion, IsDistinct}
-use Rattle.std.specs.List.Sorted.{IsStrictlySortedBy}
+use Rattle.std.specs.List.{AllByRecursion, IsDistinct, dedup, dedup_from}
+use Rattle.std.specs.List.Sorted.{IsPermutation, IsSorted, IsStrictlySortedBy}
 use Rattle.std.specs.Ordering.{match_ordering, nat_cmp, ordering_reverse}
 use Rattle.std.specs.Set.{is_member}
 use Rattle.std.specs.Str.{bytes_eq}
 use Rattle.std.specs.declared.cmp.Ordering.{Ordering}
 use Rattle.std.specs.declared.cmp.Ordering.TheVariants.{Less, Equal, Greater}
 use Rattle.std.proofs.lemmas.Bool.{eqb-true}
-use Rattle.std.proofs.lemmas.Cmp.{nat_list_cmp_total, tied_itself}
+use Rattle.std.proofs.lemmas.Cmp.{nat_list_cmp_total, nat_list_eq_equiv, tied_itself}
 use Rattle.std.proofs.lemmas.List.Elements.{All-from_recursion, recursion_from_All}
-use Rattle.std.proofs.lemmas.Map.Keys.{IsDistinct-head, IsDistinct-tail}
+use Rattle.std.proofs.lemmas.List.Kept.{IsStrictlySortedBy-dedup}
+use Rattle.std.proofs.lemmas.List.Sorted.{Contains-permutation, IsPermutation-sym}
+use Rattle.std.proofs.lemmas.Map.Keys.{IsDistinct-head, IsDistinct-tail, IsDistinct-IsPermutation}
 use Rattle.std.proofs.lemmas.Map.Lookups.{exact_bytes}
+use Rattle.std.proofs.lemmas.Map.Made.{is_member-Decides}
+use Rattle.std.proofs.lemmas.Map.Text.{is_eq-slice_cmp}
 use Rattle.std.proofs.lemmas.Map.Views.{All-insert_key}
+use Rattle.std.proofs.lemmas.Slice.Eq.{bytes_eq-Decides}
 use Rattle.mtp_codes.proofs.Names.{same_refl, same_true}
 use Rattle.pol_table.specs.ByteOrder.{comes_before, in_byte_order, place_among}
 
@@ -368,3 +373,51 @@ pub order_length : (tags : List (List ℕ)) → length (in_byte_order tags) ≤ 
 unfolding in_byte_order
 order_length [] = omega arith
 order_length (tag ∷ tags) = omega (arith, length_insert (in_byte_order tags) tag, order_length tags)
+
+-- ---- tags that were sorted
+
+-- of tags that differ none is passed over as the same as the one before it
+kept_all : (first : List ℕ) (tags : List (List ℕ)) → IsDistinct bytes_eq (first ∷ tags) →
+    dedup_from bytes_eq first tags ≡ first ∷ tags
+unfolding IsDistinct
+kept_all first [] distinct = refl
+kept_all first (tag ∷ tags) distinct =
+    ap (λ same. cond same (dedup_from bytes_eq first tags) (first ∷ dedup_from bytes_eq tag tags))
+    (nat_list_eq_equiv.symm tag first ∙ distinct.0.0)
+    ∙ ap (λ later. first ∷ later) (kept_all tag tags distinct.1)
+
+-- so they are in strict order, once they are sorted
+sorted_strictly : (tags : List (List ℕ)) → IsDistinct bytes_eq tags → IsSorted order tags →
+    IsStrictlySortedBy order tags
+sorted_strictly tags distinct sorted =
+    subst (IsStrictlySortedBy order) (kept tags distinct)
+    (IsStrictlySortedBy-dedup nat_list_cmp_total (λ tag other. sym (is_eq-slice_cmp tag other)) tags sorted)
+  where
+    kept : (tags : List (List ℕ)) → IsDistinct bytes_eq tags → dedup bytes_eq tags ≡ tags
+    kept [] distinct = refl
+    kept (first ∷ tags) distinct = kept_all first tags distinct
+
+-- the same tags in another order have the same members
+moved_members : (tags others : List (List ℕ)) (tag : List ℕ) → IsPermutation tags others →
+    is_member bytes_eq others tag ≡ is_member bytes_eq tags tag
+moved_members tags others tag moved =
+    both (is_member bytes_eq others tag) (is_member bytes_eq tags tag)
+    (λ there. (is_member-Decides bytes_eq-Decides tags tag).1
+    (Contains-permutation others tags tag (IsPermutation-sym tags others moved)
+    ((is_member-Decides bytes_eq-Decides others tag).0 there)))
+    (λ here. (is_member-Decides bytes_eq-Decides others tag).1
+    (Contains-permutation tags others tag moved ((is_member-Decides bytes_eq-Decides tags tag).0 here)))
+  where
+    both : (a b : Bool) → (a ≡ true → b ≡ true) → (b ≡ true → a ≡ true) → a ≡ b
+    both true b forth back = sym (forth refl)
+    both false true forth back = back refl
+    both false false forth back = refl
+
+-- distinct tags that were sorted are those in byte order
+pub sorted_is : (tags sorted : List (List ℕ)) → IsDistinct bytes_eq tags → IsPermutation tags sorted →
+    IsSorted order sorted → sorted ≡ in_byte_order tags
+sorted_is tags sorted distinct moved is =
+    sorted_same sorted (in_byte_order tags)
+    (sorted_strictly sorted
+    (IsDistinct-IsPermutation bytes_eq nat_list_eq_equiv.symm tags sorted moved distinct) is)
+    (order_sorted tags) (λ tag. moved_members tags sorted tag moved ∙ sym (order_members tags tag))

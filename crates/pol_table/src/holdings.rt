@@ -1,5 +1,5 @@
 //! Which parts are docked, and which batch holds each.
-ghost use Rattle.std.specs.Prelude.{◌≡◌, ℕ, ◌+◌, List, [], length, OnOk, OnErr, IfErr, slice_get, if◌then◌else◌, unwrap_or, option_copied};
+ghost use Rattle.std.specs.Prelude.{◌≡◌, ℕ, ◌+◌, List, [], length, OnOk, OnErr, IfOk, IfErr, slice_get, if◌then◌else◌, unwrap_or, option_copied};
 ghost use Rattle.std.specs.Borrow.{LendsIf, sem};
 ghost use Rattle.std.specs.Map.{keys_of};
 ghost use Rattle.std.specs.Option.{option_copied_mut, option_map};
@@ -11,12 +11,12 @@ ghost use Rattle.pol_table.specs.ByteOrder.{in_byte_order};
 
 use super::faults::{DockFault, HoldFault, LeaveFault};
 use super::holding::{first_busy, first_missing, free_each, free_seat, hold_each, holder_of_seat};
-use super::order::tag_at;
+use super::order::{tag_at, tags};
 use super::seat::Seat;
 use indexmap::IndexMap;
 use mtp_codes::{MOST_MODULES, Name};
 use slab::Slab;
-use std::alloc::Global;
+use std::alloc::{AllocError, Global};
 use std::marker::Model;
 
 /// The docked parts of a plant, each under its tag, and the batch that holds it.
@@ -89,6 +89,13 @@ impl<T: Drop> Holdings<T> {
         ensures { result ≡ slice_get (in_byte_order (keys_of self.now)) place }
     {
         tag_at(&self.seats, place as usize)
+    }
+
+    /// The docked tags in byte order.
+    pub(crate) fn tags(&self, alloc: Global) -> Result<Vec<Name>, AllocError>
+        ensures { IfOk result (λ tags. tags.items ≡ in_byte_order (keys_of self.now)) }
+    {
+        tags(alloc, &self.seats)
     }
 
     /// Docks a part under a tag that no batch holds yet.

@@ -1,5 +1,5 @@
 //! The table of docked parts.
-ghost use Rattle.std.specs.Prelude.{◌≡◌, ℕ, ◌+◌, List, [], length, OnOk, OnErr, IfErr, IsSome, true, slice_get, if◌then◌else◌, unwrap_or, option_copied};
+ghost use Rattle.std.specs.Prelude.{◌≡◌, ℕ, ◌+◌, List, [], length, OnOk, OnErr, IfOk, IfErr, IsSome, true, slice_get, if◌then◌else◌, unwrap_or, option_copied};
 ghost use Rattle.std.specs.Borrow.{LendsIf, sem};
 ghost use Rattle.std.specs.Map.{keys_of};
 ghost use Rattle.std.specs.Option.{option_copied_mut, option_map};
@@ -87,6 +87,17 @@ impl<T: Drop> Table<T> {
         ensures { result ≡ slice_get (in_byte_order (keys_of self.now)) place }
     {
         self.holdings.tag_at(place)
+    }
+
+    /// The docked tags in byte order.
+    ///
+    /// # Errors
+    ///
+    /// AllocError where memory is wanting for them.
+    pub fn tags(&self, alloc: Global) -> Result<Vec<Name>, AllocError>
+        ensures { IfOk result (λ tags. tags.items ≡ in_byte_order (keys_of self.now)) }
+    {
+        self.holdings.tags(alloc)
     }
 
     /// The batch that watches the tag at this place, from 0, in the order in which they began; None from their number

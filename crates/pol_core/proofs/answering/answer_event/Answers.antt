@@ -88,7 +88,7 @@ returns-in-Advance-clause-answered c =
     (ap plain_event (sym c.in-Advance.is)) refl refl
     mirrors
     (c.advance.ensures.answered history c.in-Advance.at mirrors.seats mirrors.counted mirrors.batches room)
-    c.advance.ensures.count
+    c.advance.ensures.names
 
 pub returns-in-Freeze-clause-answered : goal.returns-in-Freeze-clause-answered
 returns-in-Freeze-clause-answered c =
@@ -98,7 +98,7 @@ returns-in-Freeze-clause-answered c =
     mirrors
     (c.freeze.ensures.answered c.args.modules.now history c.in-Freeze.at mirrors.seats mirrors.counted
     mirrors.batches room)
-    c.freeze.ensures.count
+    c.freeze.ensures.names
 
 pub returns-in-Thaw-clause-answered : goal.returns-in-Thaw-clause-answered
 returns-in-Thaw-clause-answered c =
@@ -106,7 +106,7 @@ returns-in-Thaw-clause-answered c =
     batch_told (thaw c.in-Thaw.at c.in-Thaw.batch) c.in-Thaw.batch (ap plain_event (sym c.in-Thaw.is)) refl refl
     mirrors
     (c.thaw.ensures.answered c.args.modules.now history c.in-Thaw.at mirrors.seats mirrors.counted mirrors.batches room)
-    c.thaw.ensures.count
+    c.thaw.ensures.names
 
 pub returns-in-StopBatch-clause-answered : goal.returns-in-StopBatch-clause-answered
 returns-in-StopBatch-clause-answered c =
@@ -116,7 +116,7 @@ returns-in-StopBatch-clause-answered c =
     mirrors
     (c.stop.ensures.answered c.args.modules.now history c.in-StopBatch.at mirrors.seats mirrors.counted
     mirrors.batches room)
-    c.stop.ensures.count
+    c.stop.ensures.names
 
 pub returns-in-Abandon-clause-answered : goal.returns-in-Abandon-clause-answered
 returns-in-Abandon-clause-answered c =
@@ -125,7 +125,7 @@ returns-in-Abandon-clause-answered c =
     (ap plain_event (sym c.in-Abandon.is)) refl refl
     mirrors
     (c.abandon.ensures.answered history c.in-Abandon.at mirrors.seats mirrors.counted mirrors.batches room)
-    c.abandon.ensures.count
+    c.abandon.ensures.names
 
 pub returns-in-Desk-clause-answered : goal.returns-in-Desk-clause-answered
 returns-in-Desk-clause-answered c =

@@ -39,4 +39,4 @@ returns-clause-answered c =
     let below : length c.args.recipes.now.entries < MOST_RECIPES = omega arith in
     lt-leb MOST_RECIPES (length c.args.recipes.now.entries) below)
     (ap (λ (chart : Chart). is_valid (plain_chart chart)) same ∙ c.requires)
-    c.in_ok-keep.ensures.looks c.in_ok-keep.ensures.count)
+    c.in_ok-keep.ensures.looks c.in_ok-keep.ensures.count c.in_ok-keep.ensures.order)

@@ -1,8 +1,8 @@
 -- The batch watches and holds its modules and has a run.
-use Rattle.std.proofs.Common.{◌≡◌, ◌+◌, ◌∙◌, ap, sym, subst, cond, Some, List, length, ℕ, true}
+use Rattle.std.proofs.Common.{◌≡◌, ◌+◌, ◌++◌, ◌∷◌, [], ◌∙◌, ap, sym, subst, cond, Some, List, length, ℕ, true}
 use Rattle.std.specs.Prelude.{IsSome}
 use Rattle.std.specs.List.{IsDistinct}
-use Rattle.std.specs.Map.{lookup}
+use Rattle.std.specs.Map.{keys_of, lookup}
 use Rattle.std.specs.Str.{bytes_eq}
 use Rattle.mtp_codes.specs.Names.{is_among}
 use Rattle.pol_table.specs.Answers.{hold_answer}
@@ -39,6 +39,9 @@ returns-clause-begun c =
       runs_are = λ other. c.enter.ensures.looks other
           ∙ ap (λ (entries : List (List ℕ × PlainRun)). cond (bytes_eq c.args.batch other)
           (Some c.in_ok-run.run') (lookup (bytes_eq other) entries)) c.in_ok-reserve.ensures.entries;
+      order = c.enter.ensures.order
+          ∙ ap (λ (entries : List (List ℕ × PlainRun)). keys_of entries ++ c.args.batch ∷ [])
+          c.in_ok-reserve.ensures.entries;
       count = c.enter.ensures.count
           ∙ ap (λ (entries : List (List ℕ × PlainRun)). length entries + 1) c.in_ok-reserve.ensures.entries;
     }

@@ -187,6 +187,8 @@ returns-in_default c =
         batch = ap (λ (run : PlainRun). run.batch) c.self.view_is;
         chart = c.take-in_default.ensures.chart ∙ ap (λ (run : PlainRun). run.chart) c.self.view_is;
         binds = ap (λ (run : PlainRun). run.binds) c.self.view_is;
+        recipe = ap (λ (run : PlainRun). run.recipe) c.self.view_is;
+        held = ap (λ (run : PlainRun). run.held) c.self.view_is;
       };
       freeze = ap (λ (run : PlainRun). run.freeze) c.self.view_is;
       outcome = ap (λ (run : PlainRun). run.outcome) c.self.view_is;

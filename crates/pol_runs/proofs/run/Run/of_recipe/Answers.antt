@@ -3,7 +3,7 @@ use Rattle.chart_core.specs.Charts.{plain_chart}
 use Rattle.chart_core.specs.declared.chart.Chart.{Chart}
 use Rattle.pol_runs.specs.Holds.{HaveRoom}
 use Rattle.pol_runs.proofs.Nexts.{nothing_active}
-use Rattle.pol_runs.proofs.run.Run.new.Goals as goal
+use Rattle.pol_runs.proofs.run.Run.of_recipe.Goals as goal
 
 pub invariant_of-result : goal.invariant_of-result
 invariant_of-result c =

@@ -1,0 +1,15 @@
+//! What an event would be answered now, without it happening.
+//!
+//! It asks the plant by its calls that only look, and knows nothing of its tables, of lines or of who asks. `would_answer`
+//! answers each kind of event as `pol_history` defines it, looks at no entry of the history, and takes no memory.
+//!
+//! Tried in `plant_examples`.
+#![tactic(auto)]
+
+mod answering;
+mod batches;
+mod exchanges;
+mod modules;
+mod recipes;
+
+pub use answering::would_answer;
