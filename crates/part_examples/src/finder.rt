@@ -29,6 +29,10 @@ const TWO: &str =
 const TWO_EXACT: &str =
     r#"{"at":5,"chart":{"seq":[{"procedure":1,"role":"A","service":"dose","step":"s1"},{"procedure":1,"role":"B","service":"dose","step":"s2"}]},"ev":"recipe","recipe":"two","roles":[{"role":"A","type":"Doser","version":"^1"},{"role":"B","type":"Doser","version":"=1.0.0"}]}"#;
 
+// A recipe of five roles: A and B want one version, C and D another, and E one that no module has.
+const FIVE: &str =
+    r#"{"at":5,"chart":{"seq":[{"procedure":1,"role":"A","service":"dose","step":"s1"},{"procedure":1,"role":"B","service":"dose","step":"s2"},{"procedure":1,"role":"C","service":"dose","step":"s3"},{"procedure":1,"role":"D","service":"dose","step":"s4"},{"procedure":1,"role":"E","service":"dose","step":"s5"}]},"ev":"recipe","recipe":"five","roles":[{"role":"A","type":"Doser","version":"=1.1.0"},{"role":"B","type":"Doser","version":"=1.1.0"},{"role":"C","type":"Doser","version":"=1.0.0"},{"role":"D","type":"Doser","version":"=1.0.0"},{"role":"E","type":"Doser","version":"^3"}]}"#;
+
 // The module's tag comes before that of each of these.
 fn is_before(tag: Name, others: &[Candidate]) -> bool
     ensures { IsTrue result → All (λ other. slice_cmp nat_cmp tag other.tag ≡ Less) others.now }
@@ -169,6 +173,8 @@ fn the_least_binding_or_a_shortage_is_found(rt: HostRuntime) -> Result<(), Fail>
         (TWO, [M, None], "short A B have M"),
         (TWO, [BUSY_M, N], "short A B have N"),
         (TWO_EXACT, [M, NEWER_N], " A=N B=M"),
+        (FIVE, [M, NEWER_N], "short A B E have N"),
+        (FIVE, [M, N], "short A B E have"),
     ] {
         let mut candidates = Vec::new(alloc);
         for module in modules {

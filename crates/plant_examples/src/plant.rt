@@ -82,6 +82,9 @@ fn a_free_place_is_used_again(rt: HostRuntime) -> Result<(), Fail> {
         assert_eq!(rt; answered(&rt, &mut plant, line)?, answer);
     }
     assert_eq!(rt; plant.docking(named("M")?), Docking::Docked(2));
+    let tags = plant.tags(rt.alloc())?;
+    let wanted = [named("M")?, named("N")?];
+    assert_eq!(rt; &tags[..], &wanted[..]);
     Ok(())
 }
 

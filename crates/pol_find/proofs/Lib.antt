@@ -8,7 +8,6 @@ pub mod Listed
 pub mod Free
 pub mod Unrefused
 pub mod Starting
-pub mod Assigned
 pub mod Written
 pub mod Possible
 pub mod Entries

@@ -1,148 +1,112 @@
--- Of each recipe something can be told: its least binding to the candidates, or a shortage.
-use Rattle.std.proofs.Common.{◌≡◌, ◌<◌, ◌≤◌, ◌+◌, ◌*◌, ◌^◌, ℕ, zero, suc, Bool, true, false, if◌then◌else◌, List, []}
-use Rattle.std.proofs.Common.{◌∷◌, ◌++◌, map, length, refl, ◌∙◌, ap, arith, ⊎_elim, inl, inr, length-append}
-use Rattle.std.specs.Prelude.{slice_index}
-use Rattle.std.proofs.Math.Nat.{pow-suc}
-use Rattle.std.proofs.Math.Pow.{pow_mono}
-use Rattle.std.proofs.lemmas.List.{length-map}
+-- Of each recipe one thing can be told: its least binding to the candidates, or a shortage.
+use Rattle.std.proofs.Common.{◌≡◌, ◌<◌, ◌≤◌, ◌+◌, ℕ, zero, suc, true, Option, Some, None, List, [], ◌∷◌, ◌++◌, drop, get_or}
+use Rattle.std.proofs.Common.{refl, length, sym, ◌∙◌, ap, arith, length-append}
+use Rattle.std.specs.List.{cons_option}
+use Rattle.std.proofs.lemmas.List.{get_or_default}
+use Rattle.std.proofs.lemmas.List.Elements.{recursion_from_All}
 use Rattle.serde_json.specs.Data.{Data}
 use Rattle.serde_json.specs.Written.{compact_text}
-use Rattle.chart_core.specs.Roles.{PlainChart, role_names}
-use Rattle.pol_events.specs.ByRole.{by_role}
-use Rattle.pol_events.specs.Bound.{tags_of}
-use Rattle.pol_events.specs.declared.event.Bind.{Bind}
+use Rattle.chart_core.specs.Roles.{is_chart_form}
+use Rattle.pol_events.specs.Events.{plain_entry}
+use Rattle.pol_events.specs.declared.event.Entry.{Entry}
 use Rattle.pol_history.specs.Looking.{History}
-use Rattle.pol_match.specs.Bindings.{AreInOrder, tags_in}
-use Rattle.pol_match.specs.Fits.{PlainCandidate, fits_role, is_reached, row_for, rows_for, those_at, those_with}
-use Rattle.pol_match.specs.Places.{has_all, set_of}
-use Rattle.pol_match.specs.Seats.{fits}
-use Rattle.pol_match.proofs.BoundTags.{least_binding, no_binding, nobody, tag_of}
-use Rattle.pol_match.proofs.Bridges.{fits_there, tags_at}
-use Rattle.pol_match.proofs.Shortages.{shortage, those_few}
+use Rattle.pol_history.specs.Runs.{IsLegal, IsOrderly}
+use Rattle.pol_match.specs.Bindings.{AreInOrder}
+use Rattle.pol_match.specs.Findings.{IsToldRightly}
+use Rattle.pol_match.specs.Fits.{PlainCandidate}
+use Rattle.pol_match.proofs.Told.{each_rightly}
 use Rattle.pol_record.specs.Texts.{line_text}
 use Rattle.pol_find.specs.Candidates.{candidates_of}
-use Rattle.pol_find.specs.Found.{AreFound, IsFound, Tells, TellsEach}
-use Rattle.pol_find.specs.Lines.{bad_object, bad_text, bind_text, short_text}
-use Rattle.pol_find.specs.Recipes.{PlainRecipe, recipes_of}
-use Rattle.pol_find.proofs.Assigned.{least_or_crowd}
+use Rattle.pol_find.specs.Found.{AreFound, FindingsAreOne, IsFound, Tells, TellsEach}
+use Rattle.pol_find.specs.Lines.{bad_object, bad_text}
+use Rattle.pol_find.specs.Recipes.{PlainRecipe, made_known, recipes_of}
+use Rattle.pol_find.specs.Told.{AreToldRightly, told_of}
+use Rattle.pol_find.proofs.Entries.{recipes_in}
 use Rattle.pol_find.proofs.Free.{candidates_few, candidates_in_order}
+use Rattle.pol_find.proofs.Listed.{is_listed}
 use Rattle.pol_find.proofs.Written.{HasText}
 
--- ---- rows are small numbers
+-- ---- what is told is right
 
--- a set of so many tests has so many bits
-set_small : (tests : List Bool) → set_of tests < 2 ^ length tests
-unfolding set_of
-set_small [] = omega arith
-set_small (each ∷ others) = go each (set_small others)
+-- of each recipe of a history
+pub all_rightly : (history : History) → IsLegal history → IsOrderly history →
+    AreToldRightly (candidates_of history) (recipes_of history)
+all_rightly history legal orderly =
+    recursion_from_All (λ recipe. IsToldRightly recipe.chart (candidates_of history)) (recipes_of history)
+    (λ at blank low. let recipe = get_or (recipes_of history) at blank in
+    let is = is_listed history recipe legal orderly
+    (at, low, get_or_default (recipes_of history) at recipe blank low) in
+    each_rightly recipe.chart (candidates_of history) is.formed (candidates_few history legal)
+    (candidates_in_order history))
+
+-- what is right of each recipe is right of those behind an entry
+pub rightly_behind : (candidates : List PlainCandidate) (entries : List Entry) (at : ℕ) →
+    AreToldRightly candidates (recipes_in entries) → AreToldRightly candidates (recipes_in (drop at entries))
+rightly_behind candidates [] zero right = right
+rightly_behind candidates [] (suc at) right = right
+rightly_behind candidates (entry ∷ entries) zero right = right
+rightly_behind candidates (entry ∷ entries) (suc at) right =
+    rightly_behind candidates entries at (behind (made_known (plain_entry entry)) right)
   where
-    go : (bit : Bool) → set_of others < 2 ^ length others →
-        (if bit then 1 else 0) + 2 * set_of others < 2 ^ suc (length others)
-    go true low = rw (pow-suc 2 (length others)) (omega arith)
-    go false low = rw (pow-suc 2 (length others)) (omega arith)
-
--- so the row of each role fits a number of 64 bits
-rows_small : (chart : PlainChart) (candidates : List PlainCandidate) (names : List (List ℕ)) (row : ℕ) →
-    length candidates ≤ 64 → slice_index (map (row_for chart candidates) names) row < 2 ^ 64
-rows_small chart candidates [] row few = omega arith
-rows_small chart candidates (name ∷ names) zero few =
-    let tests = map (fits_role chart name) candidates in
-    let short : length tests ≤ 64 = omega (arith, length-map candidates (fits_role chart name)) in
-    let most : 2 ^ length tests ≤ 2 ^ 64 = pow_mono short in
-    omega (arith, set_small tests, most)
-rows_small chart candidates (name ∷ names) (suc row) few = rows_small chart candidates names row few
-
--- ---- binds of roles to tags
-
--- each role bound to the tag at its place
-bind_each : List (List ℕ) → List (List ℕ) → List Bind
-bind_each [] tags = []
-bind_each (role ∷ roles) [] = []
-bind_each (role ∷ roles) (tag ∷ tags) = record { role = role; tag = tag } ∷ bind_each roles tags
-
--- the binds have the roles
-each_role : (roles tags : List (List ℕ)) → length tags ≡ length roles →
-    map (λ bind. bind.role) (bind_each roles tags) ≡ roles
-unfolding bind_each
-each_role [] tags long = refl
-each_role (role ∷ roles) [] long = absurd (omega arith)
-each_role (role ∷ roles) (tag ∷ tags) long = ap (λ later. role ∷ later) (each_role roles tags (omega arith))
-
--- and the tags
-each_tag : (roles tags : List (List ℕ)) → length tags ≡ length roles → tags_of (bind_each roles tags) ≡ tags
-unfolding bind_each
-each_tag [] [] long = refl
-each_tag [] (tag ∷ tags) long = absurd (omega arith)
-each_tag (role ∷ roles) [] long = absurd (omega arith)
-each_tag (role ∷ roles) (tag ∷ tags) long = ap (λ later. tag ∷ later) (each_tag roles tags (omega arith))
+    behind : (first : Option PlainRecipe) → AreToldRightly candidates (cons_option first (recipes_in entries)) →
+        AreToldRightly candidates (recipes_in entries)
+    behind None all = all
+    behind (Some recipe) all = all.1
 
 -- ---- what can be told
 
 -- of a recipe
-pub can_tell : (candidates : List PlainCandidate) (recipe : PlainRecipe) → AreInOrder candidates →
-    length candidates ≤ 64 → HasText (Tells candidates recipe)
-can_tell candidates recipe sorted few =
-    ⊎_elim
-    (λ least.
-    let tags = tags_at tag_of candidates least.0 in
-    let binds = bind_each names tags in
-    let long : length tags ≡ length names =
-    length-map least.0 _ ∙ least.1.assignment.all ∙ length-map names (row_for recipe.chart candidates) in (
-      bind_text recipe.name (by_role binds),
-      inl (record {
-        binds = binds;
-        least = least_binding recipe.chart candidates least.0 binds sorted least.1 (each_role names tags long)
-            (each_tag names tags long);
-        is = refl;
-      }),
-    ))
-    (λ many.
-    let roles = those_with (has_all many.set) rows names in
-    let tags = those_at (is_reached rows many.set) 0 (tags_in candidates) in
-    let short : length (tags_in candidates) ≤ 64 =
-    omega (arith, length-map candidates (λ candidate. candidate.tag)) in (
-      short_text recipe.name roles tags,
-      inr (record {
-        roles = roles;
-        tags = tags;
-        none = no_binding recipe.chart candidates many.none;
-        shortage = shortage recipe.chart candidates many.set many.crowded
-            (those_few rows many.set (tags_in candidates) many.small short);
-        is = refl;
-      }),
-    ))
-    (least_or_crowd rows (length candidates) few inside
-    (λ row. rows_small recipe.chart candidates names row few))
-  where
-    names : List (List ℕ)
-    names = role_names recipe.chart
-
-    rows : List ℕ
-    rows = rows_for recipe.chart candidates
-
-    inside : (row place : ℕ) → fits (rows_for recipe.chart candidates) row place ≡ true → place < length candidates
-    inside row place fit =
-        (fits_there (fits_role recipe.chart) candidates (role_names recipe.chart) row place nobody fit).1
+pub can_tell : (candidates : List PlainCandidate) (recipe : PlainRecipe) → is_chart_form recipe.chart ≡ true →
+    length candidates ≤ 64 → AreInOrder candidates → HasText (Tells candidates recipe)
+can_tell candidates recipe formed few sorted = (
+  line_text (told_of candidates recipe),
+  record { is = refl; right = each_rightly recipe.chart candidates formed few sorted },
+)
 
 -- of each of these recipes
-pub can_tell_each : (candidates : List PlainCandidate) (recipes : List PlainRecipe) → AreInOrder candidates →
-    length candidates ≤ 64 → HasText (TellsEach candidates recipes)
-can_tell_each candidates [] sorted few = ([], refl)
-can_tell_each candidates (recipe ∷ recipes) sorted few =
-    let line = can_tell candidates recipe sorted few in
-    let rest = can_tell_each candidates recipes sorted few in (
-      line.0 ++ rest.0,
-      record { first = line.0; second = rest.0; one = line.1; other = rest.1; is = refl },
+pub can_tell_each : (candidates : List PlainCandidate) (recipes : List PlainRecipe) →
+    AreToldRightly candidates recipes → HasText (TellsEach candidates recipes)
+can_tell_each candidates [] right = ([], refl)
+can_tell_each candidates (recipe ∷ recipes) right =
+    let line = line_text (told_of candidates recipe) in
+    let rest = can_tell_each candidates recipes right.1 in (
+      line ++ rest.0,
+      record {
+        first = line;
+        second = rest.0;
+        one = record { is = refl; right = right.0 };
+        other = rest.1;
+        is = refl;
+      },
     )
 
--- after a legal history
+-- after a legal and orderly history
 pub can_be_found : AreFound
-can_be_found history bad legal =
-    let each = can_tell_each (candidates_of history) (recipes_of history) (candidates_in_order history)
-    (candidates_few history legal) in (
+can_be_found history bad legal orderly =
+    let each = can_tell_each (candidates_of history) (recipes_of history) (all_rightly history legal orderly) in (
       each.0 ++ bad_text bad,
       record { first = each.0; second = bad_text bad; one = each.1; other = refl; is = refl },
     )
+
+-- of each recipe there is one text alone
+one_each : (candidates : List PlainCandidate) (recipes : List PlainRecipe) (one other : List ℕ) →
+    TellsEach candidates recipes one → TellsEach candidates recipes other → one ≡ other
+one_each candidates [] one other first second = first ∙ sym second
+one_each candidates (recipe ∷ recipes) one other first second =
+    first.is
+    ∙ (ap (λ line. line ++ first.second) (first.one.is ∙ sym second.one.is)
+    ∙ (ap (λ rest. second.first ++ rest) (one_each candidates recipes first.second second.second first.other
+    second.other)
+    ∙ sym second.is))
+
+-- so there is one of all
+pub one_found : FindingsAreOne
+one_found history bad one other first second =
+    first.is
+    ∙ (ap (λ line. line ++ first.second)
+    (one_each (candidates_of history) (recipes_of history) first.first second.first first.one second.one)
+    ∙ (ap (λ rest. second.first ++ rest) (first.other ∙ sym second.other)
+    ∙ sym second.is))
 
 -- ---- no line is empty
 
@@ -154,11 +118,7 @@ some_line value =
 -- so what tells a recipe isn't empty
 pub some_told : (candidates : List PlainCandidate) (recipe : PlainRecipe) (text : List ℕ) →
     Tells candidates recipe text → 0 < length text
-some_told candidates recipe text tells =
-    ⊎_elim
-    (λ bound. rw bound.is (some_line _))
-    (λ short. rw short.is (some_line _))
-    tells
+some_told candidates recipe text tells = rw tells.is (some_line _)
 
 -- nor is the last line
 pub some_bad : (bad : ℕ) → 0 < length (bad_text bad)

@@ -7,11 +7,19 @@ use Rattle.serde_json.specs.Data.{Data, string}
 use Rattle.serde_json.specs.View.{items_of}
 use Rattle.serde_json.specs.Written.{items_outline}
 use Rattle.pol_record.specs.Objects.{data_tokens}
+use Rattle.pol_record.specs.Texts.{under_key}
+use Rattle.pol_match.specs.Fits.{PlainCandidate}
 use Rattle.pol_find.specs.Lines.{bind_object, short_object}
+use Rattle.pol_find.specs.Recipes.{PlainRecipe}
+use Rattle.pol_find.specs.Told.{told_of}
 
 -- the tokens of the last names of a list, and its bracket
 abbrev pub names_tokens : List (List ℕ) → List Token
 names_tokens names = items_tokens (items_outline (items_of (map string names)))
+
+-- the tokens of what is told of the last recipes, and its bracket
+abbrev pub told_tokens : List PlainCandidate → List PlainRecipe → List Token
+told_tokens candidates recipes = items_tokens (items_outline (items_of (map (told_of candidates) recipes)))
 
 -- a bracket, the binds, the recipe and a bracket behind other tokens are the tokens of a recipe that can be bound
 pub bind_tokens : (old : List Token) (recipe : List ℕ) (binds : Data) →
@@ -35,3 +43,12 @@ pub short_tokens : (old : List Token) (recipe : List ℕ) (roles tags : Data) �
     ≡ old ++ data_tokens (short_object recipe roles tags)
 unfolding short_object
 short_tokens old recipe roles tags = simp append_assoc refl
+
+-- a bracket, the key, what is told of each recipe and a bracket behind other tokens are the tokens of the bindings
+pub bindings_tokens : (old : List Token) (each : Data) →
+    (((old ++ token.begin_object ∷ []) ++ token.key (codes "bindings") ∷ []) ++ data_tokens each)
+    ++ token.end_object
+    ∷ []
+    ≡ old ++ data_tokens (under_key (codes "bindings") each)
+unfolding under_key
+bindings_tokens old each = simp append_assoc refl

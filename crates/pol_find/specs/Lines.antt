@@ -2,8 +2,6 @@
 use Rattle.std.specs.Prelude.{ℕ, List, map, true, codes}
 use Rattle.serde_json.specs.Data.{Data, array, boolean, number, object, string, unsigned, member, no_members}
 use Rattle.serde_json.specs.View.{items_of}
-use Rattle.pol_events.specs.declared.event.Bind.{Bind}
-use Rattle.event_json.specs.Written.{written_binds}
 use Rattle.pol_record.specs.Texts.{line_text}
 
 -- names as a list of texts
@@ -26,14 +24,6 @@ short_object recipe roles tags = object
 unfoldable pub bad_object : ℕ → Data
 bad_object bad =
     object (member (codes "bad") (number (unsigned bad)) (member (codes "end") (boolean true) no_members))
-
--- the line of a recipe that can be bound so; the binds are written as those of a start
-abbrev pub bind_text : List ℕ → List Bind → List ℕ
-bind_text recipe binds = line_text (bind_object (written_binds binds) recipe)
-
--- the line of a recipe that can't: these roles have these tags alone
-abbrev pub short_text : List ℕ → List (List ℕ) → List (List ℕ) → List ℕ
-short_text recipe roles tags = line_text (short_object recipe (names_data roles) (names_data tags))
 
 -- the last line, with the number of lines at fault
 abbrev pub bad_text : ℕ → List ℕ

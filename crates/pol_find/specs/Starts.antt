@@ -1,5 +1,5 @@
 -- What a start with a printed binding is answered.
-use Rattle.std.specs.Prelude.{ℕ, ◌≡◌, ◌<◌, List, [], length, filter, true, false, None}
+use Rattle.std.specs.Prelude.{ℕ, ◌≡◌, ◌<◌, List, [], length, filter, true, false, None, Some}
 use Rattle.std.specs.List.{Contains}
 use Rattle.mtp_codes.specs.declared.limits.TheConstants.{MOST_BATCHES}
 use Rattle.pol_events.specs.ByRole.{by_role}
@@ -12,6 +12,7 @@ use Rattle.pol_history.specs.Batches.{is_start, start_of}
 use Rattle.pol_history.specs.Looking.{History}
 use Rattle.pol_history.specs.Runs.{IsLegal, IsOrderly}
 use Rattle.pol_match.specs.Bindings.{IsBinding}
+use Rattle.pol_match.specs.Chosen.{binding_of}
 use Rattle.pol_find.specs.Candidates.{candidates_of}
 use Rattle.pol_find.specs.Recipes.{PlainRecipe, recipes_of}
 
@@ -30,4 +31,13 @@ BindingsStart =
     (history : History) (recipe : PlainRecipe) (binds : List Bind) (at : ℕ) (batch : List ℕ) → IsLegal history
     → IsOrderly history → Contains (recipes_of history) recipe → IsBinding recipe.chart (candidates_of history) binds
     → start_of history batch ≡ None → length (filter is_start history) < MOST_BATCHES → is_full history ≡ false
+    → IsDone history (start_with at batch recipe binds)
+
+-- so with the binding that is told of it
+abbrev pub ToldBindingsStart : Type 0
+ToldBindingsStart =
+    (history : History) (recipe : PlainRecipe) (binds : List Bind) (at : ℕ) (batch : List ℕ) → IsLegal history
+    → IsOrderly history → Contains (recipes_of history) recipe
+    → binding_of recipe.chart (candidates_of history) ≡ Some binds → start_of history batch ≡ None
+    → length (filter is_start history) < MOST_BATCHES → is_full history ≡ false
     → IsDone history (start_with at batch recipe binds)

@@ -1,23 +1,28 @@
-//! The finder as a job: it replays a journal, and says of each recipe how it could be bound now.
+//! The finder: it says of each recipe of a plant how it could be bound now.
 //!
-//! Of each accepted recipe, in order, it writes the least binding of its chart to the modules that are free, or a
-//! shortage where there is none; and then how many lines were at fault (`specs/Found.antt`). Which modules are free is
-//! looked up in the history (`specs/Candidates.antt`). It knows nothing of how a binding is found, which is
-//! `pol_match`'s. Its laws are that a start with a printed binding is done (`bindings_start`), and that there is always
-//! something to be written (`always_found`).
+//! As a job it replays a journal, and writes of each accepted recipe, in order, what is told of it: the least binding of
+//! its chart to the modules that are free, or a shortage where there is none; and then how many lines were at fault
+//! (`specs/Found.antt`). Of a plant `put_bindings_line` tells the same in one line (`specs/Bindings.antt`). What is told
+//! is a function of the history (`specs/Told.antt`), and which modules are free is looked up in it
+//! (`specs/Candidates.antt`). It knows nothing of how a binding is found, which is `pol_match`'s. Its laws are that a
+//! start with a binding, and so with the one that is told, is done (`bindings_start`, `told_bindings_start`), and that
+//! there is always one thing to be written (`always_found`).
 //!
 //! Tried in `pol_examples`.
 #![tactic(auto)]
 
-ghost use Rattle.pol_find.specs.Found.{AreFound};
-ghost use Rattle.pol_find.specs.Starts.{BindingsStart};
+ghost use Rattle.pol_find.specs.Found.{AreFound, FindingsAreOne};
+ghost use Rattle.pol_find.specs.Starts.{BindingsStart, ToldBindingsStart};
 
+mod bindings;
 mod candidates;
 mod finding;
 mod lines;
 mod recipes;
 mod telling;
+mod told;
 
+pub use bindings::put_bindings_line;
 pub use finding::Finding;
 
 /// A new batch that is started with a printed binding is answered Done, where fewer than 128 batches were started and
@@ -26,8 +31,15 @@ pub fn bindings_start()
     ensures { BindingsStart }
 {}
 
-/// After every legal history there is such an output: each recipe has a least binding, or a shortage that shows that it
-/// has none (Hall's theorem on the roles and the modules that fit them).
+/// A new batch that is started with the binding that is told of a recipe is answered Done, where fewer than 128 batches
+/// were started and the history isn't full; and a line can say that start.
+pub fn told_bindings_start()
+    ensures { ToldBindingsStart }
+{}
+
+/// After every legal and orderly history there is such an output: each recipe has a least binding, or a shortage that
+/// shows that it has none (Hall's theorem on the roles and the modules that fit them). And there is one alone.
 pub fn always_found()
-    ensures { AreFound }
+    ensures some { AreFound }
+    ensures one { FindingsAreOne }
 {}

@@ -4,8 +4,7 @@ ghost use Rattle.json.specs.Token as token;
 ghost use Rattle.pol_events.specs.ByRole.{by_role, with_bind};
 ghost use Rattle.event_json.specs.Written.{written_binds};
 ghost use Rattle.pol_record.specs.Objects.{data_tokens};
-ghost use Rattle.pol_find.specs.Lines.{bad_object, bad_text, bind_object, bind_text, names_data, short_object};
-ghost use Rattle.pol_find.specs.Lines.{short_text};
+ghost use Rattle.pol_find.specs.Lines.{bad_object, bad_text, bind_object, names_data, short_object};
 
 use json::Writer;
 use mtp_codes::Name;
@@ -66,8 +65,13 @@ fn write_list(writer: &mut Writer, key: &str, names: &[Name]) -> Result<(), Allo
     write_names(writer, names)
 }
 
+/// Writes the object of a recipe that can be bound so.
 #[tactic(auto, using(crate::proofs::Tokens::bind_tokens))]
-fn write_bound(writer: &mut Writer, recipe: Name, binds: &[Bind]) -> Result<(), AllocError>
+pub(crate) fn write_bound(
+    writer: &mut Writer,
+    recipe: Name,
+    binds: &[Bind],
+) -> Result<(), AllocError>
     ensures tokens { OnOk result (writer.new.tokens
         ≡ writer.old.tokens ++ data_tokens (bind_object (written_binds binds.now) recipe)) }
     ensures before { writer.new.before ≡ writer.old.before }
@@ -79,8 +83,9 @@ fn write_bound(writer: &mut Writer, recipe: Name, binds: &[Bind]) -> Result<(), 
     writer.end_object()
 }
 
+/// Writes the object of a recipe that can't be bound: these roles fit these tags alone, which are fewer.
 #[tactic(auto, using(crate::proofs::Tokens::short_tokens))]
-fn write_short(
+pub(crate) fn write_short(
     writer: &mut Writer,
     recipe: Name,
     roles: &[Name],
@@ -108,31 +113,6 @@ fn write_bad(writer: &mut Writer, bad: u64) -> Result<(), AllocError>
     writer.key("end")?;
     writer.boolean(true)?;
     writer.end_object()
-}
-
-/// The line of a recipe that can be bound so.
-#[tactic(auto, using(pol_record::proofs::Tokens::line_of_tokens))]
-pub(crate) fn bind_line(alloc: Global, recipe: Name, binds: &[Bind]) -> Result<Vec<u8>, AllocError>
-    ensures { IfOk result (λ line. line.items ≡ bind_text recipe binds.now) }
-{
-    let mut writer = Writer::new(Vec::new(alloc));
-    write_bound(&mut writer, recipe, binds)?;
-    ended_line(writer)
-}
-
-/// The line of a recipe that can't be bound: these roles fit these tags alone, which are fewer.
-#[tactic(auto, using(pol_record::proofs::Tokens::line_of_tokens))]
-pub(crate) fn short_line(
-    alloc: Global,
-    recipe: Name,
-    roles: &[Name],
-    tags: &[Name],
-) -> Result<Vec<u8>, AllocError>
-    ensures { IfOk result (λ line. line.items ≡ short_text recipe roles.now tags.now) }
-{
-    let mut writer = Writer::new(Vec::new(alloc));
-    write_short(&mut writer, recipe, roles, tags)?;
-    ended_line(writer)
 }
 
 /// The last line, with the number of lines at fault.

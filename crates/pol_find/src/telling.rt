@@ -1,5 +1,5 @@
 //! What ends the output: the line of each recipe in their order, and the last line.
-ghost use Rattle.std.specs.Prelude.{◌≤◌, length, filter_map, map, IfOk, OnOk, OnErr};
+ghost use Rattle.std.specs.Prelude.{◌≡◌, ◌≤◌, length, filter_map, map, IfOk, OnOk, OnErr};
 ghost use Rattle.mtp_codes.specs.declared.limits.TheConstants.{MOST_MODULES};
 ghost use Rattle.pol_io.specs.Causes.{HasCauseOf};
 ghost use Rattle.pol_jobs.specs.Written.{Closes, ClosesPart};
@@ -8,19 +8,25 @@ ghost use Rattle.pol_core.specs.Plants.{plant_history};
 ghost use Rattle.pol_match.specs.Bindings.{AreInOrder};
 ghost use Rattle.pol_match.specs.Candidates.{plain_candidates};
 ghost use Rattle.pol_find.specs.Found.{IsFound, Tells, TellsEach};
+ghost use Rattle.pol_record.specs.Texts.{line_text};
 ghost use Rattle.pol_find.specs.Recipes.{made_known, plain_recipe};
+ghost use Rattle.pol_find.specs.Told.{AreToldRightly, told_of};
 
 use crate::candidates::candidates;
-use crate::lines::{bad_line, bind_line, by_role, short_line};
+use crate::lines::bad_line;
 use crate::recipes::{Recipe, made_known};
+use crate::told::write_told;
+use json::Writer;
 use pol_core::Plant;
 use pol_events::Entry;
 use pol_io::Sink;
 use pol_jobs::{PutFault, put};
-use pol_match::{Candidate, Found, find_binding};
+use pol_match::Candidate;
+use pol_record::ended_line;
 use std::alloc::{AllocError, Global};
 
-// The line of a recipe: how it can be bound to the candidates, or that it can't.
+// The line of what is told of a recipe.
+#[tactic(auto, using(pol_record::proofs::Tokens::line_of_tokens))]
 fn recipe_line(
     alloc: Global,
     recipe: &Recipe<'_>,
@@ -28,12 +34,12 @@ fn recipe_line(
 ) -> Result<Vec<u8>, AllocError>
     requires few { length candidates.now ≤ MOST_MODULES }
     requires order { AreInOrder (plain_candidates candidates.now) }
-    ensures { IfOk result (λ line. Tells (plain_candidates candidates.now) (plain_recipe recipe.now) line.items) }
+    ensures { IfOk result (λ line.
+        line.items ≡ line_text (told_of (plain_candidates candidates.now) (plain_recipe recipe.now))) }
 {
-    match find_binding(alloc, recipe.chart, candidates)? {
-        Found::Binding(binds) => bind_line(alloc, recipe.name, &by_role(alloc, binds)?),
-        Found::Short { roles, tags } => short_line(alloc, recipe.name, &roles, &tags),
-    }
+    let mut writer = Writer::new(Vec::new(alloc));
+    write_told(alloc, &mut writer, recipe, candidates)?;
+    ended_line(writer)
 }
 
 // Writes the line of a recipe.
@@ -63,6 +69,8 @@ fn put_recipes<K: Sink>(
 ) -> Result<(), PutFault>
     requires few { length candidates.now ≤ MOST_MODULES }
     requires order { AreInOrder (plain_candidates candidates.now) }
+    requires right { AreToldRightly (plain_candidates candidates.now)
+        (filter_map made_known (map plain_entry entries.now)) }
     ensures text { OnOk result (Closes
         (TellsEach (plain_candidates candidates.now) (filter_map made_known (map plain_entry entries.now)))
         (K.held sink.old) (K.held sink.new)) }

@@ -149,7 +149,7 @@ pub record AreBound {Each : Type 0} (tag : Each → List ℕ) (fit : List ℕ �
   pub once : (i j : ℕ) → i < length roles → j < length roles → get_or bound i [] ≡ get_or bound j [] → i ≡ j
 
 -- where some element passes, the first that does is there
-first_passes : {Each : Type 0} (test : Each → Bool) (all : List Each) (blank : Each) → list_any test all ≡ true
+pub first_passes : {Each : Type 0} (test : Each → Bool) (all : List Each) (blank : Each) → list_any test all ≡ true
     → (position_or_len test all < length all) × (test (get_or all (position_or_len test all) blank) ≡ true)
 first_passes test all blank some =
     let found = Any-from_list_any test all some in

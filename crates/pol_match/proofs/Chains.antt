@@ -8,7 +8,8 @@ use Rattle.std.proofs.Math.ListN.{get_or-eq_default}
 use Rattle.std.proofs.lemmas.List.{get_or-set_same, get_or-set_other}
 use Rattle.pol_match.specs.Places.{is_in, IsWithin, IsFirstBeyond}
 use Rattle.pol_match.proofs.PlaceSets.{nothing_in}
-use Rattle.pol_match.specs.Seats.{fits, holder_at, Sits, IsSeating, IsClosed, IsSeated, IsVacated}
+use Rattle.pol_match.specs.Seats.{fits, holder_at, AreForced, IsClosed, IsHeldWithin, IsSeated, IsSeating, IsVacated}
+use Rattle.pol_match.specs.Seats.{Sits}
 
 -- the second set has one more place
 abbrev pub HasMore : ℕ → ℕ → ℕ → Type 0
@@ -233,6 +234,59 @@ may_be_vacated rows before seen set more place seating closed out has =
       λ row held sits. holder_alone rows before seen more place row seating within
           (out_of seen set place closed.grown out) (more_here set more place has) held sits,
     )
+
+-- what was seen stays closed when a place is looked at in vain
+pub closed_more : (rows : List ℕ) (holders : List (Option ℕ)) (seen set more wider place : ℕ)
+    → IsClosed rows holders seen set → HasMore set more place → IsClosed rows holders more wider
+    → IsHeldWithin rows holders wider place → IsClosed rows holders seen wider
+closed_more rows holders seen set more wider place closed has closed_too here =
+    record {
+      grown = λ each there. grown each (closed.grown each there);
+      held = λ each there out. ⊎_elim
+          (λ added. ⊎_elim
+          (λ same. subst (λ (spot : ℕ). IsHeldWithin rows holders wider spot) (sym same) here)
+          (λ before. let by = closed.held each before out in
+          record { holder = by.holder; held = by.held; within = λ spot fit. grown spot (by.within spot fit) })
+          (more_only set more place each has added))
+          (λ later. closed_too.held each there later)
+          (cases_Bool (is_in more each));
+    }
+  where
+    grown : (each : ℕ) → is_in set each ≡ true → is_in wider each ≡ true
+    grown each there = closed_too.grown each (more_within set more place has each there)
+
+-- what a row has seen is forced at first
+pub forced_itself : (rows : List ℕ) (holders : List (Option ℕ)) (seen row : ℕ) → AreForced rows holders seen row seen
+forced_itself rows holders seen row other closed within = closed.grown
+
+-- and stays so when one of its places is looked at in vain
+pub forced_more : (rows : List ℕ) (holders : List (Option ℕ)) (seen set more wider row place : ℕ)
+    → IsClosed rows holders seen set → IsFirstBeyond (slice_index rows row) set place → HasMore set more place
+    → AreForced rows holders seen row set
+    → ((other : ℕ) → IsClosed rows holders more other → IsHeldWithin rows holders other place → IsWithin wider other)
+    → AreForced rows holders seen row wider
+forced_more rows holders seen set more wider row place closed next has forced kept other closed_too within =
+    let unseen = out_of seen set place closed.grown next.new in
+    let here = within place next.here in
+    kept other
+    (record {
+      grown = λ each there. ⊎_elim
+          (λ equal. subst (λ (at : ℕ). is_in other at ≡ true) (sym equal) here)
+          (λ old. forced other closed_too within each old)
+          (more_only set more place each has there);
+      held = λ each there out. closed_too.held each there (out_of seen more each
+          (λ spot seen_it. more_within set more place has spot (closed.grown spot seen_it)) out);
+    })
+    (closed_too.held place here unseen)
+
+-- a holder that is stuck leaves its place in the least closed set
+pub kept_forced : (rows : List ℕ) (holders : List (Option ℕ)) (seen set holder place : ℕ)
+    → holder_at holders place ≡ Some holder → AreForced rows holders seen holder set → (other : ℕ)
+    → IsClosed rows holders seen other → IsHeldWithin rows holders other place → IsWithin set other
+kept_forced rows holders seen set holder place held forced other closed by =
+    let same : Some by.holder ≡ Some holder = sym by.held ∙ held in
+    let equal : by.holder ≡ holder = cc in
+    forced other closed (subst (λ (who : ℕ). IsWithin (slice_index rows who) other) equal by.within)
 
 -- a row that fits a place is one of the rows
 pub row_there : (rows : List ℕ) (row place : ℕ) → fits rows row place ≡ true → row < length rows

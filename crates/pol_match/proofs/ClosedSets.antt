@@ -17,15 +17,16 @@ held_there holders place row held =
     (λ high. let none : holder_at holders place ≡ None = get_or-eq_default holders None high in cc)
     (cases_lt place (length holders))
 
--- the row is to be seated, or sits outside the places seen
-abbrev pub IsConcerned : List (Option ℕ) → ℕ → ℕ → ℕ → Type 0
-IsConcerned holders seen row each = (each ≡ row) ⊎ Sits holders seen each
+-- the row is to be seated, or sits outside the places seen and fits no place outside the set
+abbrev pub IsConcerned : List ℕ → List (Option ℕ) → ℕ → ℕ → ℕ → ℕ → Type 0
+IsConcerned rows holders seen set row each =
+    (each ≡ row) ⊎ (Sits holders seen each × IsWithin (slice_index rows each) set)
 
 -- these rows have places of their own outside those that were seen
-pub record HavePlaces (rows : List ℕ) (holders : List (Option ℕ)) (seen row : ℕ) (place_of : ℕ → ℕ) : Type 0 where
-  pub fit : (each : ℕ) → IsConcerned holders seen row each → fits rows each (place_of each) ≡ true
-  pub outside : (each : ℕ) → IsConcerned holders seen row each → is_in seen (place_of each) ≡ false
-  pub once : (one other : ℕ) → IsConcerned holders seen row one → IsConcerned holders seen row other
+pub record HavePlaces (rows : List ℕ) (holders : List (Option ℕ)) (seen set row : ℕ) (place_of : ℕ → ℕ) : Type 0 where
+  pub fit : (each : ℕ) → IsConcerned rows holders seen set row each → fits rows each (place_of each) ≡ true
+  pub outside : (each : ℕ) → IsConcerned rows holders seen set row each → is_in seen (place_of each) ≡ false
+  pub once : (one other : ℕ) → IsConcerned rows holders seen set row one → IsConcerned rows holders seen set row other
       → place_of one ≡ place_of other → one ≡ other
 
 -- the places that were added to those seen
@@ -75,7 +76,7 @@ held_added rows holders seen set place closed there out =
 -- in no way of giving all these rows places does the one get a place of a closed set
 pub none_from_closed : (rows : List ℕ) (holders : List (Option ℕ)) (seen set row : ℕ) (place_of : ℕ → ℕ)
     → IsSeating rows holders seen → (Sits holders seen row → ⊥) → IsClosed rows holders seen set
-    → HavePlaces rows holders seen row place_of → is_in set (place_of row) ≡ true → ⊥
+    → HavePlaces rows holders seen set row place_of → is_in set (place_of row) ≡ true → ⊥
 none_from_closed rows holders seen set row place_of seating alone closed have there =
     let longer = one_spare (λ place. place_of (holder_or holders place)) all all (place_of row)
     (passing_distinct (added seen set) (length holders))
@@ -108,15 +109,12 @@ none_from_closed rows holders seen set row place_of seating alone closed have th
     all = passing (added seen set) (length holders)
 
     sits : (place : ℕ) → Has (passing (added seen set) (length holders)) place
-        → IsConcerned holders seen row (holder_or holders place)
+        → IsConcerned rows holders seen set row (holder_or holders place)
     sits place has =
         let passed = has_passing (added seen set) (length holders) place has in
         let parts = added-both seen set place passed.1 in
-        inr (record {
-          place = place;
-          outside = parts.1;
-          held = (held_added rows holders seen set place closed parts.0 parts.1).0;
-        })
+        let held = held_added rows holders seen set place closed parts.0 parts.1 in
+        inr (record { place = place; outside = parts.1; held = held.0 }, held.1)
 
     in_all : (place : ℕ) → is_in set place ≡ true → is_in seen place ≡ false
         → Has (passing (added seen set) (length holders)) place

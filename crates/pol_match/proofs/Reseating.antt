@@ -11,19 +11,19 @@ use Rattle.pol_match.proofs.PlaceSets.{nothing_in}
 use Rattle.pol_match.proofs.ClosedSets.{IsConcerned, none_from_closed}
 
 -- a place that the row held is held by none
-other_than-none : (row : ℕ) (holder : Option ℕ) → holder ≡ Some row → other_than row holder ≡ None
+pub other_than-none : (row : ℕ) (holder : Option ℕ) → holder ≡ Some row → other_than row holder ≡ None
 other_than-none row holder equal =
     let same : (row == row) ≡ true = grind (arith, nat_tests) in
     ap (other_than row) equal ∙ ap (λ answer. if answer then None else Some row) same
 
 -- a place that another row held is held by it
-other_than-some : (row who : ℕ) (holder : Option ℕ) → who ≢ row → holder ≡ Some who → other_than row holder ≡ Some who
+pub other_than-some : (row who : ℕ) (holder : Option ℕ) → who ≢ row → holder ≡ Some who → other_than row holder ≡ Some who
 other_than-some row who holder differs equal =
     let apart : (who == row) ≡ false = grind (arith, nat_tests) in
     ap (other_than row) equal ∙ ap (λ answer. if answer then None else Some who) apart
 
 -- who holds a place without the row held it with the row, and is another one
-some_other_than : (row who : ℕ) (holder : Option ℕ) → other_than row holder ≡ Some who
+pub some_other_than : (row who : ℕ) (holder : Option ℕ) → other_than row holder ≡ Some who
     → (holder ≡ Some who) × (who ≢ row)
 some_other_than row who None equal = cc
 some_other_than row who (Some holder) equal =
@@ -122,10 +122,10 @@ lowest {rows = rows} {freed = freed} {settled = settled} {row = row} is after pl
     (λ high. high)
     (cases_lt (slice_index others row) place)
   where
-    inside : (each : ℕ) → IsConcerned freed settled row each → (row ≤ each) × (each < length rows)
+    inside : (each : ℕ) → IsConcerned rows freed settled step.first.set row each → (row ≤ each) × (each < length rows)
     inside each concerned = ⊎_elim
         (λ equal. (omega arith, omega (arith, is.low)))
-        (λ sits. let behind = later is each sits in (omega (arith, behind.0), behind.1))
+        (λ sits. let behind = later is each sits.0 in (omega (arith, behind.0), behind.1))
         concerned
 
 -- who holds a place after the step, by whether the place is settled

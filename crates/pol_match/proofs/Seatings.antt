@@ -65,10 +65,10 @@ none_where_stuck rows before after row set low seated stuck places assignment =
     })
     (stuck.within (slice_index places row) (assignment.fit row low))
   where
-    below : (each : ℕ) → IsConcerned before 0 row each → each < length rows
+    below : (each : ℕ) → IsConcerned rows before 0 set row each → each < length rows
     below each concerned = ⊎_elim
         (λ equal. omega arith)
-        (λ sits. let lower = sits_below rows before row 0 each seated sits in omega arith)
+        (λ sits. let lower = sits_below rows before row 0 each seated sits.0 in omega arith)
         concerned
 
 -- where the next row is stuck, more rows fit the closed set alone than it has places

@@ -27,14 +27,14 @@ use Rattle.pol_match.proofs.BoundTags.{nobody}
 -- ---- names that are kept
 
 -- names whose rows pass are the names that a filter by their rows keeps
-those_with-is : (test : ℕ → Bool) (row_of : List ℕ → ℕ) (names : List (List ℕ))
+pub those_with-is : (test : ℕ → Bool) (row_of : List ℕ → ℕ) (names : List (List ℕ))
     → those_with test (map row_of names) names ≡ filter (λ name. test (row_of name)) names
 those_with-is test row_of [] = refl
 those_with-is test row_of (name ∷ names) =
     ap (λ others. if test (row_of name) then name ∷ others else others) (those_with-is test row_of names)
 
 -- two tests that agree on each name of a list keep the same names
-filter_same : (keeps passes : List ℕ → Bool) (names : List (List ℕ))
+pub filter_same : (keeps passes : List ℕ → Bool) (names : List (List ℕ))
     → AllByRecursion (λ name. keeps name ≡ passes name) names → filter keeps names ≡ filter passes names
 filter_same keeps passes [] same = refl
 filter_same keeps passes (name ∷ names) same =
@@ -42,7 +42,7 @@ filter_same keeps passes (name ∷ names) same =
     ∙ ap (λ others. cond (passes name) (name ∷ others) others) (filter_same keeps passes names same.1)
 
 -- a name is among the ones kept where it is kept and among all
-among_kept : (keeps : List ℕ → Bool) (names : List (List ℕ)) (other : List ℕ)
+pub among_kept : (keeps : List ℕ → Bool) (names : List (List ℕ)) (other : List ℕ)
     → is_among (filter keeps names) other ≡ (keeps other && is_among names other)
 among_kept keeps names other =
     any-filter_same (λ each. bytes_eq each other) keeps (keeps other)
@@ -61,7 +61,7 @@ kept_again keeps names = filter_same keeps (is_among (filter keeps names)) names
 -- ---- candidates that are reached
 
 -- tags whose places pass are the tags of the candidates that a filter keeps, where it agrees at each place
-those_at-is : (test : ℕ → Bool) (passes : PlainCandidate → Bool) (place : ℕ) (candidates : List PlainCandidate)
+pub those_at-is : (test : ℕ → Bool) (passes : PlainCandidate → Bool) (place : ℕ) (candidates : List PlainCandidate)
     → ((i : ℕ) → i < length candidates → test (place + i) ≡ passes (get_or candidates i nobody))
     → those_at test place (tags_in candidates) ≡ tags_in (filter passes candidates)
 those_at-is test passes place [] same = refl
@@ -83,7 +83,7 @@ those_at-is test passes place (candidate ∷ candidates) same =
     by_test false = refl
 
 -- a place is reached where one of the names that are kept fits it
-reached-is : (set place : ℕ) (row_of : List ℕ → ℕ) (fit : List ℕ → Bool) (names : List (List ℕ))
+pub reached-is : (set place : ℕ) (row_of : List ℕ → ℕ) (fit : List ℕ → Bool) (names : List (List ℕ))
     → ((name : List ℕ) → is_in (row_of name) place ≡ fit name)
     → is_reached (map row_of names) set place ≡ list_any fit (filter (λ name. has_all set (row_of name)) names)
 reached-is set place row_of fit [] same = refl

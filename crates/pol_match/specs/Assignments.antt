@@ -2,7 +2,8 @@
 use Rattle.std.specs.Prelude.{ℕ, ◌≡◌, ◌<◌, ◌≤◌, ◌==◌, List, length, true, false, if◌then◌else◌, slice_index, Option}
 use Rattle.std.specs.Prelude.{Some, None}
 use Rattle.pol_match.specs.Places.{is_in, passing, has_all, places_of}
-use Rattle.pol_match.specs.Seats.{fits, holder_at, IsSeating}
+use Rattle.pol_match.specs.Seats.{fits, holder_at, AreInside, IsSeating, IsStuck}
+use Rattle.pol_match.specs.declared.limits.TheConstants.{MOST_PLACES}
 
 -- each row has the place at its number, which it fits, and no two have the same
 pub record IsAssignment (rows places : List ℕ) : Type 0 where
@@ -34,6 +35,16 @@ pub record AreSeated (rows : List ℕ) (holders : List (Option ℕ)) (row : ℕ)
   pub seating : IsSeating rows holders 0
   pub known : (place each : ℕ) → holder_at holders place ≡ Some each → each < row
   pub sits : (each : ℕ) → each < row → (place : ℕ) × (holder_at holders place ≡ Some each)
+
+-- the first row that can't have a place beside those below it, and the least closed set that it lies within
+pub record IsFirstCrowd (rows : List ℕ) (set : ℕ) : Type 0 where
+  pub row : ℕ
+  pub low : row < length rows
+  pub holders : List (Option ℕ)
+  pub few : length holders ≤ MOST_PLACES
+  pub inside : AreInside rows holders
+  pub seated : AreSeated rows holders row
+  pub stuck : IsStuck rows holders holders 0 set row
 
 -- the holder of a place once this row holds none
 abbrev pub other_than : ℕ → Option ℕ → Option ℕ

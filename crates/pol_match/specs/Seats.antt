@@ -38,6 +38,11 @@ pub record IsClosed (rows : List ℕ) (holders : List (Option ℕ)) (seen set : 
   pub grown : IsWithin seen set
   pub held : (place : ℕ) → is_in set place ≡ true → is_in seen place ≡ false → IsHeldWithin rows holders set place
 
+-- each closed set that the row lies within has all these places
+abbrev pub AreForced : List ℕ → List (Option ℕ) → ℕ → ℕ → ℕ → Type 0
+AreForced rows holders seen row set =
+    (other : ℕ) → IsClosed rows holders seen other → IsWithin (slice_index rows row) other → IsWithin set other
+
 -- a closed set that has each lower place that the row fits
 pub record IsFirstOpen (rows : List ℕ) (holders : List (Option ℕ)) (seen row place : ℕ) : Type 0 where
   pub set : ℕ
@@ -54,11 +59,12 @@ pub record IsSeated (rows : List ℕ) (before after : List (Option ℕ)) (seen r
   pub only : (each : ℕ) → Sits after seen each → (each ≡ row) ⊎ Sits before seen each
   pub first : IsFirstOpen rows before seen row place
 
--- the row fits no place outside a closed set
+-- the row fits no place outside a closed set, the least such set
 pub record IsStuck (rows : List ℕ) (before after : List (Option ℕ)) (seen set row : ℕ) : Type 0 where
   pub same : after ≡ before
   pub closed : IsClosed rows before seen set
   pub within : IsWithin (slice_index rows row) set
+  pub forced : AreForced rows before seen row set
 
 -- whoever held the place sits outside the places seen, with all who sat there
 pub record IsVacated (rows : List ℕ) (before after : List (Option ℕ)) (seen place : ℕ) : Type 0 where
@@ -68,8 +74,10 @@ pub record IsVacated (rows : List ℕ) (before after : List (Option ℕ)) (seen 
   pub still : (each : ℕ) → Sits before seen each → Sits after seen each
   pub only : (each : ℕ) → Sits after seen each → (holder_at before place ≡ Some each) ⊎ Sits before seen each
 
--- the place stays held, in a closed set
+-- the place stays held, in a closed set, the least in which it is
 pub record IsKept (rows : List ℕ) (before after : List (Option ℕ)) (seen set place : ℕ) : Type 0 where
   pub same : after ≡ before
   pub closed : IsClosed rows before seen set
   pub here : IsHeldWithin rows before set place
+  pub forced : (other : ℕ) → IsClosed rows before seen other → IsHeldWithin rows before other place
+      → IsWithin set other

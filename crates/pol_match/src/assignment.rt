@@ -2,8 +2,8 @@
 
 ghost use Rattle.std.specs.Prelude.{◌≡◌, ◌<◌, ◌≤◌, ℕ, length, true, None, IfOk, MatchResult};
 ghost use Rattle.pol_match.specs.Seats.{AreInside, fits, holder_at};
-ghost use Rattle.pol_match.specs.Assignments.{AreSeated, HaveNone, IsCrowded, IsLeastAssignment, IsReseated, IsSettled};
-ghost use Rattle.pol_match.specs.Assignments.{IsUnseated};
+ghost use Rattle.pol_match.specs.Assignments.{AreSeated, HaveNone, IsCrowded, IsFirstCrowd, IsLeastAssignment, IsReseated};
+ghost use Rattle.pol_match.specs.Assignments.{IsSettled, IsUnseated};
 ghost use Rattle.pol_match.specs.Outcomes.{IsOutcome};
 ghost use Rattle.pol_match.specs.declared.limits.TheConstants.{MOST_PLACES};
 
@@ -18,7 +18,7 @@ fn seat_all(rows: &[Places], holders: &mut [Option<usize>]) -> Result<(), Places
     requires free { (place : ℕ) → holder_at holders.old place ≡ None }
     ensures { MatchResult result
         (λ _. AreSeated rows.now holders.new (length rows.now))
-        (λ set. IsCrowded rows.now set × HaveNone rows.now) }
+        (λ set. IsCrowded rows.now set × HaveNone rows.now × IsFirstCrowd rows.now set) }
 {
     for row in 0..rows.len() {
         let mut seen = Places::new();

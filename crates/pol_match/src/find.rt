@@ -16,8 +16,8 @@ ghost use Rattle.pol_match.specs.Fits.{is_reached, row_for, rows_for, steps_of, 
 ghost use Rattle.pol_match.specs.Candidates.{plain_candidates};
 ghost use Rattle.pol_match.specs.Needed.{row_by};
 ghost use Rattle.pol_match.specs.Bindings.{AreInOrder, tags_in};
-ghost use Rattle.pol_match.specs.Assignments.{HaveNone, IsCrowded, IsLeastAssignment};
-ghost use Rattle.pol_match.specs.Findings.{IsFinding};
+ghost use Rattle.pol_match.specs.Assignments.{HaveNone, IsCrowded, IsFirstCrowd, IsLeastAssignment};
+ghost use Rattle.pol_match.specs.Findings.{IsFinding, IsTold};
 ghost use Rattle.pol_match.specs.declared.limits.TheConstants.{MOST_PLACES};
 
 use crate::assignment::{Outcome, assign};
@@ -172,7 +172,8 @@ fn binding_at(
 ) -> Result<Found, AllocError>
     requires order { AreInOrder (plain_candidates candidates.now) }
     requires least { IsLeastAssignment (rows_for (plain_chart chart.now) (plain_candidates candidates.now)) places.now }
-    ensures { IfOk result (λ found. IsFinding (plain_chart chart.now) (plain_candidates candidates.now) found) }
+    ensures right { IfOk result (λ found. IsFinding (plain_chart chart.now) (plain_candidates candidates.now) found) }
+    ensures told { IfOk result (λ found. IsTold (plain_chart chart.now) (plain_candidates candidates.now) found) }
 {
     let binds = binds_at(alloc, &chart.roles, candidates, places)?;
     Ok(Found::Binding(binds))
@@ -187,10 +188,13 @@ fn shortage_within(
     set: Places,
 ) -> Result<Found, AllocError>
     requires few { length candidates.now ≤ MOST_MODULES }
+    requires order { AreInOrder (plain_candidates candidates.now) }
     requires rows { rows.now ≡ rows_for (plain_chart chart.now) (plain_candidates candidates.now) }
     requires crowded { IsCrowded rows.now set }
     requires none { HaveNone rows.now }
-    ensures { IfOk result (λ found. IsFinding (plain_chart chart.now) (plain_candidates candidates.now) found) }
+    requires first { IsFirstCrowd rows.now set }
+    ensures right { IfOk result (λ found. IsFinding (plain_chart chart.now) (plain_candidates candidates.now) found) }
+    ensures told { IfOk result (λ found. IsTold (plain_chart chart.now) (plain_candidates candidates.now) found) }
 {
     let roles = roles_within(alloc, &chart.roles, rows, set)?;
     let tags = tags_reached(alloc, candidates, rows, set)?;
@@ -201,8 +205,10 @@ fn shortage_within(
 /// which are distinct.
 ///
 /// Binding exactly where each role can have a candidate of its own that fits it; it is then the least by the tags in
-/// the order of the roles. Else Short, with roles that fit only these fewer candidates. A candidate fits a role where
-/// its description covers it and each service of the role's steps is idle. What a role needs is gathered once, and each
+/// the order of the roles. Else Short, with roles that fit only these fewer candidates: of the roles up to the first
+/// with which they can't be bound, those without any one of which the others can be, and all others that fit only what
+/// these fit. So what is found is a function of the chart and the candidates. A candidate fits a role where its
+/// description covers it and each service of the role's steps is idle. What a role needs is gathered once, and each
 /// candidate is asked once for it; the rest takes at most two searches along chains for each role.
 ///
 /// # Errors
@@ -215,7 +221,8 @@ pub fn find_binding(
 ) -> Result<Found, AllocError>
     requires few { length candidates.now ≤ MOST_MODULES }
     requires order { AreInOrder (plain_candidates candidates.now) }
-    ensures { IfOk result (λ found. IsFinding (plain_chart chart.now) (plain_candidates candidates.now) found) }
+    ensures right { IfOk result (λ found. IsFinding (plain_chart chart.now) (plain_candidates candidates.now) found) }
+    ensures told { IfOk result (λ found. IsTold (plain_chart chart.now) (plain_candidates candidates.now) found) }
 {
     let steps = steps_in_order(alloc, chart)?;
     let tests = tests_in_order(alloc, &chart.root)?;

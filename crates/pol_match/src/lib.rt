@@ -11,9 +11,11 @@ mod assignment;
 mod candidate;
 mod find;
 mod fit;
+mod laws;
 mod limits;
 mod places;
 mod seats;
 
 pub use candidate::{Candidate, Found};
 pub use find::find_binding;
+pub use laws::told_rightly;

@@ -11,9 +11,10 @@ use Rattle.pol_find.specs.Candidates.{candidates_of}
 use Rattle.pol_find.specs.Found.{IsFound, TellsEach}
 use Rattle.pol_find.specs.Lines.{bad_text}
 use Rattle.pol_find.specs.Recipes.{PlainRecipe, recipes_of}
+use Rattle.pol_find.specs.Told.{AreToldRightly}
 use Rattle.pol_find.proofs.Entries.{all_recipes, recipes_in}
 use Rattle.pol_find.proofs.Free.{candidates_few, candidates_in_order}
-use Rattle.pol_find.proofs.Possible.{can_be_found, some_bad, some_found}
+use Rattle.pol_find.proofs.Possible.{all_rightly, can_be_found, some_bad, some_found}
 use Rattle.pol_find.proofs.Written.{both_written, first_begun, none_begun, second_begun}
 use Rattle.pol_find.proofs.telling.close.Goals as goal
 
@@ -27,7 +28,7 @@ as_found Known {one = one} {those = those} candidates recipes known =
 pub returns-in_err-candidates-clause-part : goal.returns-in_err-candidates-clause-part
 returns-in_err-candidates-clause-part g c =
     let history = plant_history c.args.plant.now in
-    let text = can_be_found history c.args.bad c.history-history.ensures.legal in
+    let text = can_be_found history c.args.bad c.history-history.ensures.legal c.history-history.ensures.orderly in
     let fault = err_from_is_err_and c.from_residual.result c.from_residual.ensures.1 in
     rw fault.1
     (none_begun (IsFound history c.args.bad) _ text.0 text.1 (some_found history c.args.bad text.0 text.1))
@@ -44,6 +45,15 @@ pub put_recipes-requires-clause-order : goal.put_recipes-requires-clause-order
 put_recipes-requires-clause-order g c =
     subst AreInOrder (sym (ap plain_candidates c.deref.ensures.value ∙ c.in_ok-candidates.ensures))
     (candidates_in_order (plant_history c.args.plant.now))
+
+pub put_recipes-requires-clause-right : goal.put_recipes-requires-clause-right
+put_recipes-requires-clause-right g c =
+    let history = plant_history c.args.plant.now in
+    subst (λ candidates. AreToldRightly candidates (recipes_in c.history-history.result.now))
+    (sym (ap plain_candidates c.deref.ensures.value ∙ c.in_ok-candidates.ensures))
+    (subst (λ recipes. AreToldRightly (candidates_of history) recipes)
+    (sym (ap recipes_in c.history-history.ensures.entries ∙ all_recipes c.args.plant.now.entries))
+    (all_rightly history c.history-history.ensures.legal c.history-history.ensures.orderly))
 
 pub returns-in_err-put_recipes-clause-part : goal.returns-in_err-put_recipes-clause-part
 returns-in_err-put_recipes-clause-part g c =

@@ -1,13 +1,12 @@
 -- One more entry is looked at.
-use Rattle.std.proofs.Common.{◌≤◌, ◌+◌, arith, ap, drop, length, subst, sym, ◌∙◌}
+use Rattle.std.proofs.Common.{◌+◌, ap, drop, subst, sym, ◌∙◌}
 use Rattle.std.specs.List.{cons_option}
 use Rattle.std.specs.Prelude.{option_map}
-use Rattle.std.proofs.lemmas.List.{length-map}
 use Rattle.std.proofs.lemmas.Result.{err_from_is_err_and}
-use Rattle.pol_match.specs.Candidates.{plain_candidate, plain_candidates}
+use Rattle.pol_match.specs.Candidates.{plain_candidates}
 use Rattle.pol_find.specs.Recipes.{plain_recipe}
 use Rattle.pol_find.proofs.Entries.{recipes_end, recipes_in, recipes_next}
-use Rattle.pol_find.proofs.Possible.{can_tell_each}
+use Rattle.pol_find.proofs.Possible.{can_tell_each, rightly_behind}
 use Rattle.pol_find.proofs.Written.{ToldSoFar, told_all, told_next, told_part}
 use Rattle.pol_find.proofs.telling.put_recipes.Goals as goal
 use Rattle.pol_find.proofs.telling.put_recipes.Goals.{in-Some+in_ok-put_recipe, in_default}
@@ -21,14 +20,14 @@ returns-in_err-put_recipe-clause-part g c =
     let next = recipes_next c.args.entries.now c.loop-entry.entry-index c.entry-item.result c.loop-entry-test.true
     c.entry-item.is
     ∙ ap (λ first. cons_option first rest) (sym c.in-Some.ensures) in
-    let few : length candidates ≤ 64 = omega (arith, length-map c.args.candidates.now plain_candidate) in
     let fault = err_from_is_err_and c.from_residual.result c.from_residual.ensures.1 in
     rw fault.1
     (told_part candidates recipes (held c.args.sink.now) (held c.loop-entry.sink) (held c.put_recipe.new.sink)
     (plain_recipe c.in-Some.recipe) rest
     (subst (λ left. ToldSoFar candidates recipes left (held c.args.sink.now) (held c.loop-entry.sink)) next
     c.loop-entry.invariant.so_far)
-    c.in_err-put_recipe.ensures.part (can_tell_each candidates rest c.requires.order few))
+    c.in_err-put_recipe.ensures.part (can_tell_each candidates rest
+    (rightly_behind candidates c.args.entries.now (c.loop-entry.entry-index + 1) c.requires.right)))
 
 pub loop-entry-preserved : goal.loop-entry-preserved
 loop-entry-preserved g c =

@@ -1,4 +1,4 @@
-use Rattle.std.proofs.Common.{ℕ, ◌<◌, ◌^◌, arith}
+use Rattle.std.proofs.Common.{ℕ, ◌<◌, ◌^◌, arith, refl}
 use Rattle.std.specs.Prelude.{slice_index}
 use Rattle.pol_match.specs.Seats.{IsSeated, IsStuck}
 use Rattle.pol_match.proofs.PlaceSets.{small_where_below}
@@ -18,6 +18,20 @@ returns-then-is_none c =
           c.loop-row-test.true small c.loop-row.invariant stuck,
       none_where_stuck c.args.rows.now c.loop-row.holders c.seat.new.holders c.loop-row.row c.seat.new.seen
           c.loop-row-test.true c.loop-row.invariant stuck,
+      record {
+        row = c.loop-row.row;
+        low = c.loop-row-test.true;
+        holders = c.loop-row.holders;
+        few = omega (arith, c.requires.few, c.loop-row.auto.holders);
+        inside = λ row place fit. omega (arith, c.requires.inside row place fit, c.loop-row.auto.holders);
+        seated = c.loop-row.invariant;
+        stuck = record {
+          same = refl;
+          closed = stuck.closed;
+          within = stuck.within;
+          forced = stuck.forced;
+        };
+      },
     )
 
 pub loop-row-preserved : goal.loop-row-preserved

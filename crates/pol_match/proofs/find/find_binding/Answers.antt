@@ -5,7 +5,7 @@ use Rattle.pol_match.specs.Fits.{row_for, rows_for}
 use Rattle.pol_match.specs.Candidates.{plain_candidates}
 use Rattle.pol_match.specs.declared.assignment.Outcome.{Outcome}
 use Rattle.pol_match.specs.declared.assignment.Outcome.TheVariants.{Crowded}
-use Rattle.pol_match.specs.Assignments.{IsLeastAssignment, IsCrowded, HaveNone}
+use Rattle.pol_match.specs.Assignments.{IsLeastAssignment, IsCrowded, IsFirstCrowd, HaveNone}
 use Rattle.pol_match.specs.Outcomes.{IsOutcome}
 use Rattle.pol_match.proofs.CandidateLists.{place_there}
 use Rattle.pol_match.proofs.find.find_binding.Goals as goal
@@ -46,7 +46,9 @@ shortage_within-requires c =
     ∙ sym c.deref-in-Crowded.ensures.value in
     record {
       few = c.requires.few;
+      order = c.requires.order;
       rows = c.deref-in-Crowded.ensures.value ∙ same;
       crowded = subst (λ (rows : List ℕ). IsCrowded rows c.in-Crowded.set) alike known.0;
       none = subst HaveNone alike known.1;
+      first = subst (λ (rows : List ℕ). IsFirstCrowd rows c.in-Crowded.set) alike known.2;
     }

@@ -2,9 +2,10 @@ use Rattle.std.proofs.Common.{arith, true, ◌≡◌, ◌<◌, ◌≤◌, ◌∙
 use Rattle.std.specs.Prelude.{slice_index}
 use Rattle.std.proofs.lemmas.List.{get_or_default}
 use Rattle.pol_match.specs.Places.{IsFirstBeyond, IsWithin}
-use Rattle.pol_match.specs.Seats.{fits, IsVacated}
+use Rattle.pol_match.specs.Seats.{fits, IsKept, IsVacated}
 use Rattle.pol_match.proofs.Counting.{unseen, unseen_less}
-use Rattle.pol_match.proofs.Chains.{MayBeVacated, may_be_vacated, more_within, more_here, out_of, row_there, seated}
+use Rattle.pol_match.proofs.Chains.{MayBeVacated, closed_more, forced_more, may_be_vacated, more_within, more_here, out_of}
+use Rattle.pol_match.proofs.Chains.{row_there, seated}
 use Rattle.pol_match.proofs.seats.+seat.Goals as goal
 
 -- the first place of what was read at a row is that of the row
@@ -77,6 +78,27 @@ seat-loop-place-smaller t c =
     unseen_less set c.vacate.new.seen place (λ each there. kept.closed.grown each
     (more_within set more place c.insert.ensures each there)) next.below next.new
     (kept.closed.grown place (more_here set more place c.insert.ensures))
+
+pub seat-loop-place-preserved : goal.seat-loop-place-preserved
+seat-loop-place-preserved t c =
+    let next = first_of_row c.args.rows.now c.args.row c.index-rows-row.result c.loop-place.seen c.in-Some.place
+    c.requires.row c.index-rows-row.is c.in-Some.ensures.some in
+    let rows = c.args.rows.now in
+    let holders = c.args.holders.now in
+    let old = c.args.seen.now in
+    let set = c.loop-place.seen in
+    let more = c.insert.new.self in
+    let wider = c.vacate.new.seen in
+    let place = c.in-Some.place in
+    let kept = subst (λ (before : List (Option ℕ)). IsKept rows before c.vacate.new.holders more wider place)
+    c.loop-place.invariant.same c.if-vacate.ensures in
+    record {
+      same = kept.same;
+      closed = closed_more rows holders old set more wider place c.loop-place.invariant.closed c.insert.ensures
+          kept.closed kept.here;
+      forced = forced_more rows holders old set more wider c.args.row place c.loop-place.invariant.closed next
+          c.insert.ensures c.loop-place.invariant.forced kept.forced;
+    }
 
 pub vacate-seat-requires : goal.vacate-seat-requires
 vacate-seat-requires t c = (

@@ -7,10 +7,12 @@ use Rattle.std.proofs.lemmas.List.{length-map}
 use Rattle.std.proofs.lemmas.Nat.{or_lt}
 use Rattle.std.proofs.Math.ListN.{length-set}
 use Rattle.pol_match.specs.Places.{is_in, IsFirstBeyond, IsWithin}
-use Rattle.pol_match.specs.Seats.{fits, holder_at, AreInside, IsClosed, IsHeldWithin, IsSeated, IsSeating, IsStuck}
+use Rattle.pol_match.specs.Seats.{fits, holder_at, AreForced, AreInside, IsClosed, IsSeated, IsSeating, IsStuck}
 use Rattle.pol_match.specs.Seats.{IsVacated, Sits}
-use Rattle.pol_match.specs.Assignments.{AreSeated, HaveNone, IsCrowded, IsLeastAssignment, IsUnseated, other_than}
-use Rattle.pol_match.proofs.Chains.{HasMore, may_be_vacated, more_here, more_only, more_within, seated}
+use Rattle.pol_match.specs.Assignments.{AreSeated, HaveNone, IsCrowded, IsFirstCrowd, IsLeastAssignment, IsUnseated}
+use Rattle.pol_match.specs.Assignments.{other_than}
+use Rattle.pol_match.proofs.Chains.{HasMore, closed_more, forced_itself, forced_more, kept_forced, may_be_vacated}
+use Rattle.pol_match.proofs.Chains.{more_here, more_within, seated}
 use Rattle.pol_match.proofs.Counting.{unseen, unseen_less}
 use Rattle.pol_match.proofs.Lowering.{AreLowered, all_lowered, none_lowered, one_more_lowered}
 use Rattle.pol_match.proofs.PlaceSets.{in_more}
@@ -75,20 +77,20 @@ beyond_or_within set other below =
 -- ---- one more row
 
 -- the row gets a place
-record GetsSeat (rows : List ℕ) (holders : List (Option ℕ)) (seen row : ℕ) : Type 0 where
-  after : List (Option ℕ)
-  place : ℕ
-  long : length after ≡ length holders
-  seated : IsSeated rows holders after seen row place
+pub record GetsSeat (rows : List ℕ) (holders : List (Option ℕ)) (seen row : ℕ) : Type 0 where
+  pub after : List (Option ℕ)
+  pub place : ℕ
+  pub long : length after ≡ length holders
+  pub seated : IsSeated rows holders after seen row place
 
 -- or it can't
-record GetsStuck (rows : List ℕ) (holders : List (Option ℕ)) (seen row : ℕ) : Type 0 where
-  set : ℕ
-  small : set < 2 ^ 64
-  stuck : IsStuck rows holders holders seen set row
+pub record GetsStuck (rows : List ℕ) (holders : List (Option ℕ)) (seen row : ℕ) : Type 0 where
+  pub set : ℕ
+  pub small : set < 2 ^ 64
+  pub stuck : IsStuck rows holders holders seen set row
 
 -- one or the other
-abbrev Tried : List ℕ → List (Option ℕ) → ℕ → ℕ → Type 0
+abbrev pub Tried : List ℕ → List (Option ℕ) → ℕ → ℕ → Type 0
 Tried rows holders seen row = GetsSeat rows holders seen row ⊎ GetsStuck rows holders seen row
 
 -- what is known where a row looks at its next place: what was seen so far is closed
@@ -96,6 +98,7 @@ record LooksAt (rows : List ℕ) (holders : List (Option ℕ)) (seen set more ro
   seating : IsSeating rows holders seen
   alone : Sits holders seen row → ⊥
   closed : IsClosed rows holders seen set
+  forced : AreForced rows holders seen row set
   next : IsFirstBeyond (slice_index rows row) set place
   has_more : HasMore set more place
   low : place < length holders
@@ -156,37 +159,29 @@ module _ (rows : List ℕ) (holders : List (Option ℕ)) (seen set more row plac
   closed_wider : (holder wider : ℕ) → holder_at holders place ≡ Some holder →
       IsStuck rows holders holders more wider holder → IsClosed rows holders seen wider
   closed_wider holder wider held stuck =
-      record {
-        grown = λ each there. stuck.closed.grown each
-            (more_within set more place looks.has_more each (looks.closed.grown each there));
-        held = λ each there out. ⊎_elim
-            (λ added. ⊎_elim
-            (λ same. subst (λ (spot : ℕ). IsHeldWithin rows holders wider spot) (sym same)
-            (record { holder = holder; held = held; within = stuck.within }))
-            (λ before. let by = looks.closed.held each before out in
-            record {
-              holder = by.holder;
-              held = by.held;
-              within = λ spot fit. stuck.closed.grown spot
-                  (more_within set more place looks.has_more spot (by.within spot fit));
-            })
-            (more_only set more place each looks.has_more added))
-            (λ later. stuck.closed.held each there later)
-            (cases_Bool (is_in more each));
-      }
+      closed_more rows holders seen set more wider place looks.closed looks.has_more stuck.closed
+      (record { holder = holder; held = held; within = stuck.within })
+
+  -- and forced
+  forced_wider : (holder wider : ℕ) → holder_at holders place ≡ Some holder →
+      IsStuck rows holders holders more wider holder → AreForced rows holders seen row wider
+  forced_wider holder wider held stuck =
+      forced_more rows holders seen set more wider row place looks.closed looks.next looks.has_more looks.forced
+      (kept_forced rows holders more wider holder place held stuck.forced)
 
 -- a set is closed beyond itself
-closed_itself : (rows : List ℕ) (holders : List (Option ℕ)) (set : ℕ) → IsClosed rows holders set set
+pub closed_itself : (rows : List ℕ) (holders : List (Option ℕ)) (set : ℕ) → IsClosed rows holders set set
 closed_itself rows holders set =
     record { grown = λ each there. there; held = λ each there out. absurd cc }
 
 -- A row gets a place, or it is stuck: it looks at its places one after the other, and where one is held its holder
 -- tries in the same way. The set of the places seen grows with each try.
-try : (fuel : ℕ) (rows : List ℕ) (holders : List (Option ℕ)) (seen set row : ℕ) → length holders ≤ 64 →
+pub try : (fuel : ℕ) (rows : List ℕ) (holders : List (Option ℕ)) (seen set row : ℕ) → length holders ≤ 64 →
     AreInside rows holders → IsSeating rows holders seen → (Sits holders seen row → ⊥) →
-    IsClosed rows holders seen set → set < 2 ^ 64 → unseen set < fuel → Tried rows holders seen row
-try zero rows holders seen set row few inside seating alone closed small low = absurd (omega arith)
-try (suc fuel) rows holders seen set row few inside seating alone closed small low =
+    IsClosed rows holders seen set → AreForced rows holders seen row set → set < 2 ^ 64 → unseen set < fuel →
+    Tried rows holders seen row
+try zero rows holders seen set row few inside seating alone closed forced small low = absurd (omega arith)
+try (suc fuel) rows holders seen set row few inside seating alone closed forced small low =
     ⊎_elim
     (λ found.
     let place = found.0 in
@@ -200,16 +195,16 @@ try (suc fuel) rows holders seen set row few inside seating alone closed small l
     by_holder place more next has (holder_at holders place) refl
     (λ holder held.
     try fuel rows holders more more holder few inside may.0 (may.1 holder held) (closed_itself rows holders more)
-    (or_lt 64 set (1 * 2 ^ place % 2 ^ 64) small tiny) (omega arith))
-    (λ wider small_too grown closed_too.
+    (forced_itself rows holders more holder) (or_lt 64 set (1 * 2 ^ place % 2 ^ 64) small tiny) (omega arith))
+    (λ wider small_too grown closed_too forced_too.
     let fewer_too = unseen_less set wider place
     (λ each there. grown each (more_within set more place has each there)) next.below next.new
     (grown place (more_here set more place has)) in
-    try fuel rows holders seen wider row few inside seating alone closed_too small_too (omega arith)))
+    try fuel rows holders seen wider row few inside seating alone closed_too forced_too small_too (omega arith)))
     (λ within. inr (record {
       set = set;
       small = small;
-      stuck = record { same = refl; closed = closed; within = within };
+      stuck = record { same = refl; closed = closed; within = within; forced = forced };
     }))
     (beyond_or_within (slice_index rows row) set (λ place fit. omega (arith, inside row place fit)))
   where
@@ -220,6 +215,7 @@ try (suc fuel) rows holders seen set row few inside seating alone closed small l
           seating = seating;
           alone = alone;
           closed = closed;
+          forced = forced;
           next = next;
           has_more = has;
           low = inside row place next.here;
@@ -229,7 +225,7 @@ try (suc fuel) rows holders seen set row few inside seating alone closed small l
         (holder : Option ℕ) → holder_at holders place ≡ holder →
         ((who : ℕ) → holder_at holders place ≡ Some who → Tried rows holders more who) →
         ((wider : ℕ) → wider < 2 ^ 64 → IsWithin more wider → IsClosed rows holders seen wider →
-        Tried rows holders seen row) → Tried rows holders seen row
+        AreForced rows holders seen row wider → Tried rows holders seen row) → Tried rows holders seen row
     by_holder place more next has None free moves again =
         inl (gets rows holders seen set more row place (looking place more next has) holders refl
         (vacated_free rows holders seen set more row place (looking place more next has) free))
@@ -239,6 +235,8 @@ try (suc fuel) rows holders seen set row few inside seating alone closed small l
         (vacated_moved rows holders seen set more row place (looking place more next has) holder held got)))
         (λ stuck. again stuck.set stuck.small stuck.stuck.closed.grown
         (closed_wider rows holders seen set more row place (looking place more next has) holder stuck.set held
+        stuck.stuck)
+        (forced_wider rows holders seen set more row place (looking place more next has) holder stuck.set held
         stuck.stuck))
         (moves holder held)
 
@@ -256,6 +254,7 @@ pub record AreTooMany (rows : List ℕ) : Type 0 where
   pub small : set < 2 ^ 64
   pub crowded : IsCrowded rows set
   pub none : HaveNone rows
+  pub first : IsFirstCrowd rows set
 
 -- a table of places that no one holds
 free_places : ℕ → List (Option ℕ)
@@ -276,18 +275,18 @@ held_free (suc count) zero = refl
 held_free (suc count) (suc place) = held_free count place
 
 -- the table in which the row holds no place
-freed_of : ℕ → List (Option ℕ) → List (Option ℕ)
+pub freed_of : ℕ → List (Option ℕ) → List (Option ℕ)
 freed_of row holders = map (other_than row) holders
 
 -- so it is there: the others hold what they held
-is_freed : (row : ℕ) (holders : List (Option ℕ)) → IsUnseated holders (freed_of row holders) row
+pub is_freed : (row : ℕ) (holders : List (Option ℕ)) → IsUnseated holders (freed_of row holders) row
 unfolding freed_of
 is_freed row [] place = refl
 is_freed row (holder ∷ holders) zero = refl
 is_freed row (holder ∷ holders) (suc place) = is_freed row holders place
 
 -- the table is as long
-long_freed : (row : ℕ) (holders : List (Option ℕ)) → length (freed_of row holders) ≡ length holders
+pub long_freed : (row : ℕ) (holders : List (Option ℕ)) → length (freed_of row holders) ≡ length holders
 unfolding freed_of
 long_freed row holders = length-map holders (other_than row)
 
@@ -317,11 +316,20 @@ module _ (rows : List ℕ) (count : ℕ) (few : count ≤ 64)
         crowded = crowded_where_stuck rows have.holders have.holders row stuck.set (omega arith) small_rows have.seated
             stuck.stuck;
         none = none_where_stuck rows have.holders have.holders row stuck.set (omega arith) have.seated stuck.stuck;
+        first = record {
+          row = row;
+          low = omega arith;
+          holders = have.holders;
+          few = omega (arith, have.long);
+          inside = λ each place fit. omega (arith, inside each place fit, have.long);
+          seated = have.seated;
+          stuck = stuck.stuck;
+        };
       }))
       (try (suc (unseen 0)) rows have.holders 0 0 row (omega (arith, have.long))
       (λ each place fit. omega (arith, inside each place fit, have.long)) have.seated.seating
-      (next_alone rows have.holders row 0 have.seated) (closed_itself rows have.holders 0) (omega arith)
-      (omega arith)))
+      (next_alone rows have.holders row 0 have.seated) (closed_itself rows have.holders 0)
+      (forced_itself rows have.holders 0 row) (omega arith) (omega arith)))
       (λ many. inr many)
       (seats_or_crowd row (omega arith))
 
@@ -387,7 +395,8 @@ module _ (rows : List ℕ) (count : ℕ) (few : count ≤ 64)
           (omega (arith, long_freed row least.holders, least.long))
           (λ each place fit. omega (arith, inside each place fit, long_freed row least.holders, least.long))
           (freed_seating freed) (freed_alone freed)
-          (closed_itself rows (freed_of row least.holders) least.settled) least.small (omega arith))
+          (closed_itself rows (freed_of row least.holders) least.settled)
+          (forced_itself rows (freed_of row least.holders) least.settled row) least.small (omega arith))
 
   -- All have the least places, or some are too many for theirs.
   pub least_or_crowd : ((places : List ℕ) × IsLeastAssignment rows places) ⊎ AreTooMany rows
