@@ -64,7 +64,7 @@ covered_after tags events =
 -- ---- the batches
 
 -- the batches of what stays are those that aren't taken out
-batches_stay : (tags bound : List (List ℕ)) (history : History) → AllByRecursion (Covered tags bound) history →
+pub batches_stay : (tags bound : List (List ℕ)) (history : History) → AllByRecursion (Covered tags bound) history →
     batches (filter (stays tags bound) history) ≡ filter (λ batch. not (is_among bound batch)) (batches history)
 batches_stay tags bound history covered =
     ap reverse (filter_map_kept newly_started (stays tags bound) (λ batch. not (is_among bound batch)) history

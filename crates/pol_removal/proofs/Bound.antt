@@ -1,15 +1,17 @@
 -- An accepted start that binds one of the modules is of a batch that is bound to them.
-use Rattle.std.proofs.Common.{◌≡◌, ℕ, Bool, true, false, cond, List, [], ◌∷◌, Option, Some, None}
+use Rattle.std.proofs.Common.{◌≡◌, ℕ, Bool, true, false, cond, List, [], ◌∷◌, refl, Option, Some, None}
 use Rattle.std.specs.List.{AllByRecursion, cons_option}
 use Rattle.std.specs.Str.{bytes_eq}
-use Rattle.std.proofs.lemmas.Bool.{and_parts, or_left, or_right}
+use Rattle.std.proofs.lemmas.Bool.{and_parts, or_left, or_right, both_ways}
 use Rattle.mtp_codes.specs.Names.{is_among}
 use Rattle.mtp_codes.proofs.Names.{same_refl}
 use Rattle.pol_events.specs.Events.{PlainEvent, start, PlainEntry}
 use Rattle.pol_history.specs.Looking.{History, Subject, of_module, of_batch, of_recipe, subject, is_accepted}
-use Rattle.pol_history.specs.Batches.{started_batch}
+use Rattle.pol_events.specs.Bound.{tags_of}
+use Rattle.pol_history.specs.Batches.{binds_in, started_batch}
 use Rattle.pol_history.specs.Runs.{is_recorded, recorded}
-use Rattle.pol_removal.specs.Removal.{binds_one, bound_batch, bound_batches, is_of}
+use Rattle.pol_removal.specs.Removal.{is_some_among, binds_one, bound_batch, bound_batches, is_of}
+use Rattle.pol_history.proofs.Filters.{all_of}
 use Rattle.pol_removal.proofs.Each.{all_map}
 use Rattle.pol_removal.proofs.Sparing.{Covered}
 
@@ -54,3 +56,17 @@ covered_recorded tags bound entry history here covered = go (is_recorded entry.a
     go : (kept : Bool) → AllByRecursion (Covered tags bound) (cond kept (entry ∷ history) history)
     go true = (here, covered)
     go false = covered
+
+-- a start binds none of no modules
+pub binds_none : (binds : List (List ℕ)) → is_some_among [] binds ≡ false
+binds_none [] = refl
+binds_none (tag ∷ binds) = binds_none binds
+
+-- where no modules are taken out, any batches cover each entry
+pub covered_by_none : (bound : List (List ℕ)) (entries : List PlainEntry) → AllByRecursion (Covered [] bound) entries
+covered_by_none bound entries = all_of (Covered [] bound) covered entries
+  where
+    covered : (entry : PlainEntry) → Covered [] bound entry
+    covered entry is = let none : binds_one [] entry.event ≡ false = binds_none (tags_of (binds_in entry.event)) in
+        absurd (both_ways (binds_one [] entry.event) none
+        (and_parts (binds_one [] entry.event) (is_accepted entry.answer) is).0)

@@ -9,9 +9,9 @@ use Rattle.pol_events.specs.declared.answer.Answer.TheVariants.{Refused}
 use Rattle.pol_history.specs.Looking.{History}
 use Rattle.pol_history.specs.Runs.{entry_of, is_recorded, recorded, run_after, run_of, AreOrderly}
 use Rattle.pol_history.proofs.Accepted.{paired}
-use Rattle.pol_removal.specs.Removal.{is_refused_for_another, bound_batches, stays, RemovalOfEvents}
+use Rattle.pol_removal.specs.Removal.{is_refused_for_another, bound_batches, stays, RemovalOfEvents, RemovalOfBatches}
 use Rattle.pol_removal.proofs.Sparing.{Covered, stays_parts}
-use Rattle.pol_removal.proofs.Bound.{bound_covers, covered_recorded}
+use Rattle.pol_removal.proofs.Bound.{bound_covers, covered_by_none, covered_recorded}
 use Rattle.pol_removal.proofs.Owned.{Owned, owned_recorded}
 use Rattle.pol_removal.proofs.Alike.{alike_without}
 use Rattle.pol_removal.proofs.Answering.{answered_alike}
@@ -52,7 +52,7 @@ abbrev kept_first : Bool → PlainEntry → List PlainEntry → List PlainEntry
 kept_first stay entry rest = cond stay (entry ∷ rest) rest
 
 -- the events that stay, run by themselves, give what stays of the whole run
-run_stays : (tags bound : List (List ℕ)) (events : List PlainEvent) (history : History) → AreOrderly events →
+pub run_stays : (tags bound : List (List ℕ)) (events : List PlainEvent) (history : History) → AreOrderly events →
     AllByRecursion (Covered tags bound) history → AllByRecursion (Owned history) history
     → AllByRecursion (Covered tags bound) (run_after history events) →
     run_after (filter (stays tags bound) history) (map (λ entry. entry.event)
@@ -86,3 +86,8 @@ run_stays tags bound (event ∷ events) history orderly covered owned covers =
 pub events_removed : RemovalOfEvents
 events_removed tags events orderly =
     run_stays tags (bound_batches tags (run_of events)) events [] orderly tt tt (bound_covers tags (run_of events))
+
+-- taking out no modules, and any batches, takes out the entries of these batches
+pub batches_removed : RemovalOfBatches
+batches_removed gone events orderly =
+    run_stays [] gone events [] orderly tt tt (covered_by_none gone (run_of events))

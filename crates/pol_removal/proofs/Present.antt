@@ -82,7 +82,7 @@ present_step tags bound present entry less false is same = same
     ∙ present_goes tags bound present entry.event entry.answer (is_accepted entry.answer) refl is
 
 -- the modules that are there after what stays are those that aren't taken out
-present_without : (tags bound : List (List ℕ)) (history : History)
+pub present_without : (tags bound : List (List ℕ)) (history : History)
     → present_tags (filter (stays tags bound) history) ≡ outside tags (present_tags history)
 present_without tags bound [] = refl
 present_without tags bound (entry ∷ history) =

@@ -73,6 +73,10 @@ stays tags bound entry = not (is_concerned tags bound entry)
 abbrev pub entries_without : List (List ℕ) → List PlainEvent → List PlainEntry
 entries_without tags events = filter (stays tags (bound_batches tags (run_of events))) (run_of events)
 
+-- the entries of a run without those of some batches, and without those refused for another's sake
+abbrev pub entries_of_others : List (List ℕ) → List PlainEvent → List PlainEntry
+entries_of_others gone events = filter (stays [] gone) (run_of events)
+
 -- the line stays where the modules are taken out, and the batches that are bound to them
 abbrev pub row_stays : List (List ℕ) → List (List ℕ) → AnsweredLine → Bool
 row_stays tags bound (skipped piece) = true
@@ -112,6 +116,12 @@ abbrev pub RemovalOfEvents : Type 0
 RemovalOfEvents =
     (tags : List (List ℕ)) (events : List PlainEvent) → AreOrderly events →
     run_of (map (λ entry. entry.event) (entries_without tags events)) ≡ entries_without tags events
+
+-- leaving out the events of any batches, with those refused for another's sake, leaves the other entries as they are
+abbrev pub RemovalOfBatches : Type 0
+RemovalOfBatches =
+    (gone : List (List ℕ)) (events : List PlainEvent) → AreOrderly events →
+    run_of (map (λ entry. entry.event) (entries_of_others gone events)) ≡ entries_of_others gone events
 
 -- taking out the lines that concern some modules takes out just their output lines
 abbrev pub RemovalOfLines : Type 0

@@ -1,0 +1,13 @@
+use Rattle.std.proofs.Common.{◌≡◌, drop, map}
+use Rattle.pol_events.specs.Events.{plain_entry, plain_history}
+use Rattle.pol_history.specs.Modules.{reported}
+use Rattle.pol_compaction.specs.Flags.{lasting_in}
+use Rattle.pol_compaction.specs.Marks.{marks_of, report_stays}
+use Rattle.pol_compaction.proofs.looks.report_stays.Given as goal
+
+abbrev pub invariant-loop-entry : goal.invariant-loop-entry
+invariant-loop-entry l =
+    report_stays l.state l.was_read (marks_of (plain_history l.whole) l.tag (reported l.service)
+    (lasting_in (plain_history l.whole) (map plain_entry (drop l.entry-index l.newer))))
+    ≡ report_stays l.state l.was_read (marks_of (plain_history l.whole) l.tag (reported l.service)
+    (lasting_in (plain_history l.whole) (map plain_entry l.newer)))

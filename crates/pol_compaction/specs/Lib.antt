@@ -1,0 +1,12 @@
+pub mod Lasting
+pub mod Reading
+pub mod Marks
+pub mod Compaction
+pub mod Example
+pub mod Alike
+pub mod Silent
+pub mod Forgotten
+pub mod Alone
+pub mod Law
+pub mod Flags
+pub mod Noted
