@@ -28,6 +28,7 @@ def check(checks):
     check_policy_beside(checks)
     check_answers_alone(checks)
     check_policy_replayed(checks)
+    check_operated(checks)
     check_finder(checks)
     check_kept(checks)
     check_nothing(checks)
@@ -74,6 +75,15 @@ def check_policy_beside(checks):
     checks.open(*files)
     checks.says('a policy in a file of its own', 'counts', '8 entries', '5 denied')
     checks.gives('has no answer', "document.getElementById('faults').innerText", '')
+
+
+def check_operated(checks):
+    """A question to an operated plant is no event: what it was told is left out with it."""
+    checks.open(checks.example('operated.jsonl'), checks.data('operated.answers'))
+    checks.says('operate: questions are no entries', 'counts', '6 entries', '3 denied', '2 lines at fault')
+    checks.gives('operate: its own lines are no faults', "document.getElementById('faults').innerText", '')
+    checks.run('page.go(7)')
+    checks.says('operate: each answer is that of its line', 'here', 'ann asks dose of M for Stop', 'ModeForbids')
 
 
 def check_answers_alone(checks):

@@ -11,6 +11,8 @@ const lines = (() => {
     return told ? told.map(line => line.replace(/ +/, " ")).join(" · ") : null;
   }
   const ANSWERS = ["done", "ticket", "did", "wait", "closed", "refused", "bad", "denied"];
+  // What an operated plant tells of itself, and changes nothing by.
+  const TOLD = ["would", "plant", "bindings", "entries"];
   const isObject = value => typeof value === "object" && value !== null && !Array.isArray(value);
   function parsed(text) { try { return JSON.parse(text); } catch { return undefined; } }
   // Whole numbers that a browser can't hold are read by their digits, as whole numbers of any size.
@@ -33,16 +35,27 @@ const lines = (() => {
     if (Array.isArray(value.log) && "outcome" in value) return "batch";
     if (Array.isArray(value.modules) && Array.isArray(value.batches)) return "site";
     if (Array.isArray(value.groups) && Array.isArray(value.rules)) return "policy";
+    if ("ask" in value) return "question";
+    if (TOLD.some(key => key in value)) return "told";
+    if ("kept" in value && "sum" in value) return "opened";
     if ("recipe" in value && (isObject(value.bind) || Array.isArray(value.short))) return "binding";
     return ANSWERS.some(key => key in value) ? "answer" : "fault";
   }
-  const OUTPUT = new Set(["answer", "batch", "binding", "end", "verdict"]);
+  const OUTPUT = new Set(["answer", "batch", "binding", "end", "verdict", "opened"]);
   // Columns of places: an entry's event and its answer stand in a file from one sign to another, in a line.
   class Places {
     constructor() { Object.assign(this, { file: [], from: [], to: [], line: [] }); }
     get length() { return this.file.length; }
     put(file, from, to, line) { this.file.push(file); this.from.push(from); this.to.push(to); this.line.push(line); }
     insert(k, place) { [this.file, this.from, this.to, this.line].forEach((list, n) => list.splice(k, 0, place[n])); }
+    // Those that aren't at these indices.
+    without(indices) {
+      const rest = new Places();
+      for (let k = 0; k < this.length; k += 1) {
+        if (!indices.has(k)) rest.put(this.file[k], this.from[k], this.to[k], this.line[k]);
+      }
+      return rest;
+    }
     raw(files, k) { return files[this.file[k]].text.slice(this.from[k], this.to[k]); }
   }
   // What was found in the files. Entries are either whole lines, or an event's line and its answer's; where no event
@@ -51,7 +64,8 @@ const lines = (() => {
   class Found {
     constructor(files) {
       Object.assign(this, { files, whole: new Places(), events: new Places(), answers: new Places(), batches: [],
-        faults: [], verdicts: [], policy: null, finder: null, site: null, build: null, ends: 0 });
+        questions: new Set(), told: new Set(), faults: [], verdicts: [], policy: null, opened: null, finder: null,
+        site: null, build: null, ends: 0 });
     }
     get length() { return this.whole.length + this.lead.length; }
     get hasAnswers() { return this.whole.length > 0 || this.answers.length > 0; }
@@ -89,9 +103,18 @@ const lines = (() => {
       const [file, from, to] = place ?? [];
       return place ? this.files[file].text.slice(from, to) : "";
     }
+    // Questions are no events, and what they are told is no answer. They go by pairs where all answers came along, as a
+    // question at fault is told its fault.
+    unask() {
+      if (this.questions.size + this.told.size === 0) return;
+      const inPairs = this.questions.size > 0 && this.answers.length === this.events.length;
+      this.answers = this.answers.without(inPairs ? this.questions : this.told);
+      this.events = this.events.without(this.questions);
+    }
     // A policy is no event and has no answer. Where there is an answer more than events, it was read as an event, as a
     // replay does.
     settle() {
+      this.unask();
       if (this.policy === null || this.answers.length !== this.events.length + 1) return;
       this.events.insert(this.policy.before, this.policy.place);
       this.policy = null;
@@ -133,10 +156,16 @@ const lines = (() => {
     if (journal.on && journal.alone && OUTPUT.has(kind)) journal.on = false;
     if (kind === "site") found.site = value;
     else if (isPolicy) found.policy = { before: found.events.length, place: [file, from, to, line] };
-    else if (journal.on) found.events.put(file, from, to, line);
-    else if (kind === "entry") found.whole.put(file, from, to, line);
+    else if (journal.on) {
+      if (kind === "question") found.questions.add(found.events.length);
+      found.events.put(file, from, to, line);
+    } else if (kind === "entry") found.whole.put(file, from, to, line);
     else if (kind === "event") found.events.put(file, from, to, line);
     else if (kind === "answer") found.answers.put(file, from, to, line);
+    else if (kind === "told") {
+      found.told.add(found.answers.length);
+      found.answers.put(file, from, to, line);
+    } else if (kind === "opened") found.opened = value;
     else if (kind === "batch") found.batches.push(value);
     else if (kind === "binding" || (kind === "end" && "bad" in value)) found.bound(value);
     else if (kind === "end") found.ends += 1;

@@ -13,10 +13,11 @@ const past = (() => {
   // Which answers an event may have where nothing refuses it; without a word here it is done.
   const GIVES = { advance: ["did", "wait", "closed"], stop: ["did", "done"], desk: ["did"], abandon: ["closed"],
     exchange_begin: ["ticket"] };
-  // Can these two stand together? Else they are of different files, or one was changed.
+  // Can these two stand together? Else they are of different files, or one was changed. The policy of an operated plant
+  // may deny any event.
   function isPair(event, kind) {
-    if (kind === "refused" || kind === "bad") return kind === "bad" || Boolean(event);
-    if (kind === "denied") return event?.ev === "desk";
+    if (kind === "bad") return true;
+    if (kind === "refused" || kind === "denied") return Boolean(event);
     return Boolean(event) && (Object.hasOwn(GIVES, event.ev) ? GIVES[event.ev] : ["done"]).includes(kind);
   }
   // What became of an operator's command, by what its answer has.

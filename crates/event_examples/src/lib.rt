@@ -10,6 +10,8 @@ mod output_lines;
 #[cfg(test)]
 mod persons;
 #[cfg(test)]
+mod questions;
+#[cfg(test)]
 mod quick_lines;
 #[cfg(test)]
 mod site_texts;

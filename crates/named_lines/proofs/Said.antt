@@ -110,14 +110,16 @@ pub desk_named : (line : List ℕ) (named : PlainNamed) → named_of line ≡ Ok
     → is_some named.person ≡ true
 desk_named line named is = (line_said line named is).person
 
--- what was told of a line is orderly
-pub told_orderly : (line : List ℕ) (result : Result Named LineRefusal) → TellsNamed result (named_of line)
+-- what was told of a value is orderly
+pub told_orderly : (value : Data) (result : Result Named LineRefusal) → TellsNamed result (of_named (named_in value))
     → IfOk result (λ named. IsTrue (is_orderly (plain_event named.event)))
-told_orderly line (Ok named) tells = (line_said line (plain_named named) tells).orderly
-told_orderly line (Err refusal) tells = tt
+told_orderly value (Ok named) tells =
+    (said_said (named_in value) (plain_named named) (value_named value) tells).orderly
+told_orderly value (Err refusal) tells = tt
 
--- what was told of a line names a person where it is of the desk
-pub told_person : (line : List ℕ) (result : Result Named LineRefusal) → TellsNamed result (named_of line)
+-- what was told of a value names a person where it is of the desk
+pub told_person : (value : Data) (result : Result Named LineRefusal) → TellsNamed result (of_named (named_in value))
     → IfOk result (λ named. is_desk (plain_event named.event) ≡ true → is_some named.by ≡ true)
-told_person line (Ok named) tells = (line_said line (plain_named named) tells).person
-told_person line (Err refusal) tells = tt
+told_person value (Ok named) tells =
+    (said_said (named_in value) (plain_named named) (value_named value) tells).person
+told_person value (Err refusal) tells = tt

@@ -22,4 +22,5 @@ pub use laws::{
     unnamed_lines_are_alike,
 };
 pub use lines::NamedLines;
-pub use named::{Named, read_named};
+pub use named::{Named, named_from, read_named};
+pub use person::name_if;

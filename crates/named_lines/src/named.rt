@@ -46,24 +46,28 @@ fn told_from(alloc: Global, value: Value) -> Result<Named, LineRefusal>
     }
 }
 
-#[tactic(auto, unfolding(crate::specs::Named::named_of))]
-fn read_line(alloc: Global, line: &[u8]) -> Result<Named, LineRefusal>
-    ensures { TellsNamed result (named_of line.now) }
+/// The event that the JSON value of a line says and who gives it; else its first fault, each as `read_named` answers it of
+/// the line.
+pub fn named_from(alloc: Global, value: Value) -> Result<Named, LineRefusal>
+    ensures tells { TellsNamed result (of_named (named_in (view value))) }
+    ensures orderly { IfOk result (λ named. IsTrue (is_orderly (plain_event named.event))) }
+    ensures named { IfOk result (λ named. is_desk (plain_event named.event) ≡ true → is_some named.by ≡ true) }
 {
-    match parse(alloc, line) {
-        Ok(value) => told_from(alloc, value),
-        Err(JsonRefusal::Fault(fault)) => Err(LineRefusal::Fault(LineFault::Json(fault))),
-        Err(JsonRefusal::Memory) => Err(LineRefusal::Memory),
-    }
+    told_from(alloc, value)
 }
 
 /// The event that a line says and who gives it, whom `by` names behind `at`; else the line's first fault in reading
 /// order, with its path: Missing at `by` for a command of the desk without it, WrongKind or OutOfRange at `by` for what
 /// is no name, and every other fault as `read_event` answers it of the line without `by`. It never answers `TooLong`.
+#[tactic(auto, unfolding(crate::specs::Named::named_of))]
 pub fn read_named(alloc: Global, line: &[u8]) -> Result<Named, LineRefusal>
     ensures tells { TellsNamed result (named_of line.now) }
     ensures orderly { IfOk result (λ named. IsTrue (is_orderly (plain_event named.event))) }
     ensures named { IfOk result (λ named. is_desk (plain_event named.event) ≡ true → is_some named.by ≡ true) }
 {
-    read_line(alloc, line)
+    match parse(alloc, line) {
+        Ok(value) => named_from(alloc, value),
+        Err(JsonRefusal::Fault(fault)) => Err(LineRefusal::Fault(LineFault::Json(fault))),
+        Err(JsonRefusal::Memory) => Err(LineRefusal::Memory),
+    }
 }

@@ -16,7 +16,7 @@ use serde_json::{Map, Value};
 use std::alloc::Global;
 
 /// A name, or None where the key is absent.
-fn name_if(alloc: Global, object: &Value, key: &str) -> Result<Option<Name>, JsonRefusal>
+pub fn name_if(alloc: Global, object: &Value, key: &str) -> Result<Option<Name>, JsonRefusal>
     requires { IsTrue (is_name key.now) }
     ensures { ReadsAs (λ found. found) result (optional key.now name (view object.now)) }
 {

@@ -1,7 +1,9 @@
 -- How the job on an operated plant ended, by its result.
 use Rattle.std.proofs.Common.{ℕ, ◌≡◌, List, ap₂, refl, subst, inl, inr}
 use Rattle.std.specs.Prelude.{Option, Some, IfSome, Result, Ok, Err, IfErr, OnOk}
+use Rattle.std.specs.Io.KnownBytes.{Keeps}
 use Rattle.mtp_json.specs.declared.fault.FaultKind.{FaultKind}
+use Rattle.mtp_json.specs.declared.fault.JsonFault.{JsonFault}
 use Rattle.mtp_json.specs.declared.path.PathPart.{PathPart}
 use Rattle.pol_disk.specs.Disks.{told_through}
 use Rattle.pol_io.specs.Edge.{Edge}
@@ -99,11 +101,19 @@ no_policy_result (Err (operated.BadPolicy reason)) path fault is =
 unsaid : (seen : Option (List ℕ)) (source source' sink sink' : Edge) (result : Result (Unit {0}) OperateFault) →
     OperateEnds seen source source' sink sink' result → (path : List PathPart) (fault : FaultKind) →
     status_of_operated result ≡ status.BadPolicy path fault →
-    Between (HasNoPolicy (record { kind = fault; path = path }) sink.bytes sink'.bytes) source.bytes source'.bytes
+    Between (λ bytes left. HasNoPolicy (record { kind = fault; path = path }) bytes) source.bytes source'.bytes
 unsaid seen source source' sink sink' result ends path fault is =
     let row = subst (OperateEnds seen source source' sink sink') (no_policy_result result path fault is) ends in
     between_unsaid (begun_anyway row.found) (record { kind = fault; path = path }) sink.bytes sink'.bytes
     source.bytes source'.bytes row.ends.0
+
+-- what holds where the policy was refused holds on that status
+on_bad_policy : (P : Type 0) (result : Result (Unit {0}) OperateFault) (path : List PathPart) (fault : FaultKind) →
+    IfErr result (λ fault. (reason : JsonFault) → fault ≡ operated.BadPolicy reason → P) →
+    status_of_operated result ≡ status.BadPolicy path fault → P
+on_bad_policy P result path fault holds is =
+    subst (λ result. IfErr result (λ fault. (reason : JsonFault) → fault ≡ operated.BadPolicy reason → P))
+    (no_policy_result result path fault is) holds (record { kind = fault; path = path }) refl
 
 -- a job whose disk wasn't opened wasn't begun
 not_opened : (result : Result (Unit {0}) OperateFault) → IsUnopened result → IsNotOpened (status_of_operated result)
@@ -127,13 +137,16 @@ pub operated_ends : {D : Type 0} (source sink : Edges) (ledger : Disks D) (resul
     (ledger.tells.faults ledger.after ≡ ledger.tells.faults ledger.before)
     × IfSome (ledger.tells.bytes ledger.after) (λ all. IsNoStore ledger_work all place)) →
     IfErr result (λ fault. (place : ℕ) → fault ≡ operated.NotALedger place → source.Untouched × sink.Untouched) →
+    IfErr result (λ fault. (reason : JsonFault) → fault ≡ operated.BadPolicy reason →
+    Keeps sink.before.bytes sink.after.bytes) →
     OperatedEnds source sink ledger (status_of_operated result)
-operated_ends source sink ledger result ends unopened cause no_ledger untouched = record {
+operated_ends source sink ledger result ends unopened cause no_ledger untouched unwritten = record {
   result = result;
   told = refl;
   ends = ends;
   begins = λ all later told still none well. not_opened result (unopened all later told still none well);
   unsaid = unsaid _ source.before source.after sink.before sink.after result ends;
+  unwritten = λ path fault. on_bad_policy _ result path fault unwritten;
   disk_cause = on_disk_fault _ result cause;
   no_ledger = λ place. on_no_ledger _ result place no_ledger;
   untouched = λ place. on_no_ledger (λ place. source.Untouched × sink.Untouched) result place untouched;

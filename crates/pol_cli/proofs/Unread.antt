@@ -1,5 +1,5 @@
 -- Where there was no memory to read the words, each task ended as one that had none: nothing was begun.
-use Rattle.std.proofs.Common.{ℕ, ◌≡◌, ◌⊎◌, List, true, refl, inl, inr}
+use Rattle.std.proofs.Common.{ℕ, ◌≡◌, ◌⊎◌, List, Bool, false, true, refl, inl, inr}
 use Rattle.std.specs.Prelude.{Err}
 use Rattle.std.specs.declared.convert.Infallible.{Infallible}
 use Rattle.mtp_json.specs.declared.fault.FaultKind.{FaultKind}
@@ -19,12 +19,12 @@ use Rattle.pol_find.specs.Finding.{found}
 use Rattle.pol_find.specs.Starts.{BindingsStart}
 use Rattle.pol_guard.specs.Guarded.{guarded}
 use Rattle.pol_guard.specs.Laws.{GuardTheorem}
-use Rattle.kept_jobs.specs.Leaving.{IsEarlier}
-use Rattle.kept_jobs.specs.Leaving as items
+use Rattle.kept_jobs.specs.Leaving.{IsEarlier, KeptJob, StandsForMore}
+use Rattle.kept_jobs.specs.Telling.{Telling}
+use Rattle.kept_jobs.proofs.Running.{of_input}
 use Rattle.pol_keep.specs.Exported.{exported_output, no_input}
-use Rattle.pol_keep.specs.Keeping.{Telling}
-use Rattle.pol_keep.specs.Kept.{StandsForMore, kept_output}
-use Rattle.pol_keep.proofs.Ended.{of_input}
+use Rattle.pol_keep.specs.Keeping.{plant_job}
+use Rattle.pol_keep.specs.Kept.{kept_output}
 use Rattle.pol_keep.specs.declared.fault.KeepFault.TheVariants as kept
 use Rattle.pol_ledger.specs.Work.{ledger_work}
 use Rattle.pol_migration.specs.Job.{migrating}
@@ -32,11 +32,14 @@ use Rattle.pol_migration.specs.Migration.{MigrationKeepsOutputs}
 use Rattle.pol_operate.specs.Asked.{OperatedIsRun}
 use Rattle.pol_operate.specs.Kept.{operate_job}
 use Rattle.pol_operate.specs.Laws.{LinesAreGuarded}
+use Rattle.pol_operate.specs.QuestionLaws.{QuestionsChangeNothing}
 use Rattle.pol_operate.specs.declared.fault.OperateFault.TheVariants as operated
 use Rattle.pol_replay.specs.Replay.{replayed}
+use Rattle.pol_kept.specs.Work.{ChronicleWork}
 use Rattle.pol_store.specs.Stands.{StandsFor}
+use Rattle.pol_store.specs.Work.{plant_work}
 use Rattle.pol_cli.specs.Audits.{AuditTheorem, audited}
-use Rattle.pol_cli.specs.Operating.{items_telling}
+use Rattle.pol_cli.specs.Keeping.{KeepsInput}
 use Rattle.pol_cli.specs.SiteRuns.{planted}
 use Rattle.pol_cli.specs.Statuses.{no_refusal, refused_as}
 use Rattle.pol_cli.specs.Tasks.{ExportEnds, JobEnds, KeepingEnds, KeptEnds, OperatingEnds, SerialEnds, TaskEnds}
@@ -55,6 +58,7 @@ pub record JobLaws : Type 0 where
   pub bindings : BindingsStart
   pub operated : LinesAreGuarded
   pub operations : OperatedIsRun
+  pub questions : QuestionsChangeNothing
 
 -- a source or a sink that was left as it was
 abbrev pub rested : Edge → (Same : Type 0) → Edges
@@ -127,20 +131,34 @@ module _ (source sink : Edge) (SameSource SameSink : Type 0) (source_same : Same
       untouched = λ place is. (same, sink_same);
     }
 
+    -- what a crash left before is of before the first line
+    earlier : {State Item Answer : Type 0} (work : ChronicleWork State Item Answer) (begins : Bool) (old : List Item)
+        (image : List ℕ) → tells.images disk image → IsEarlier work tells begins disk old image
+    earlier work false old image crash = crash
+    earlier work true old image crash = inl crash
+
+    -- and nothing else is left
+    keeps_unbegun : {State Item Answer : Type 0} (work : ChronicleWork State Item Answer) (job : KeptJob Item) →
+        KeepsInput work job (rested source SameSource) (rested sink SameSink) (rested_disk tells disk)
+        status.OutOfMemory
+    keeps_unbegun work job = record {
+      lines = record {
+        moments = λ old reads told. of_input source.bytes _ (λ input. started tells.moment tells.left_since disk
+            (λ image. IsEarlier work tells job.begins disk old image
+            ⊎ StandsForMore work (job.items_with old) input image)
+            (λ image since. inl (earlier work job.begins old image (only_now image since))));
+        kept = λ old reads told. of_input source.bytes _
+            (λ input image crash. inl (refl, earlier work job.begins old image crash));
+      };
+      all = λ good. absurd (not_good good);
+    }
+
     -- the replay there
     keeping_unbegun : KeepingEnds (rested source SameSource) (rested sink SameSink) (rested_disk tells disk)
         status.OutOfMemory
     keeping_unbegun = record {
       job = kept_unbegun kept_output source SameSource source_same;
-      keeps = record {
-        lines = record {
-          moments = λ old reads told. of_input source.bytes _ (λ input. started tells.moment tells.left_since disk
-              (λ image. tells.images disk image ⊎ StandsForMore old input image)
-              (λ image since. inl (only_now image since)));
-          kept = λ old reads told. of_input source.bytes _ (λ input image crash. inl (refl, crash));
-        };
-        all = λ good. absurd (not_good good);
-      };
+      keeps = keeps_unbegun plant_work plant_job;
     }
 
     -- an export
@@ -166,22 +184,15 @@ module _ (source sink : Edge) (SameSource SameSink : Type 0) (source_same : Same
         ends = inl (refl, refl);
         begins = λ all later told still none well. inr refl;
         unsaid = λ path fault is. absurd (not_refused path fault is);
+        unwritten = λ path fault is. absurd (not_refused path fault is);
         disk_cause = λ is. absurd (not_failed is);
         no_ledger = λ place is. absurd (not_ledger place is);
         untouched = λ place is. (source_same, sink_same);
       };
-      keeps = record {
-        lines = record {
-          moments = λ old reads told. of_input source.bytes _ (λ input. started tells.moment tells.left_since disk
-              (λ image. IsEarlier ledger_work (items_telling tells) true disk old image
-              ⊎ items.StandsForMore ledger_work (operate_job.items_with old) input image)
-              (λ image since. inl (inl (only_now image since))));
-          kept = λ old reads told. of_input source.bytes _ (λ input image crash. inl (refl, inl crash));
-        };
-        all = λ good. absurd (not_good good);
-      };
+      keeps = keeps_unbegun ledger_work operate_job;
       guards = laws.operated;
       runs = laws.operations;
+      questions = laws.questions;
     }
 
   module _ {D L : Type 0} (tells : Telling D) (disk : D)

@@ -1,8 +1,7 @@
--- An input that the job on an operated plant refuses has no policy, and nothing was written.
+-- An input that the job on an operated plant refuses has no policy.
 use Rattle.std.proofs.Common.{ℕ, ◌≡◌, ◌∙◌, ◌<◌, List, [], ◌∷◌, ◌++◌, Bool, true, false, Option, Some, None, Ok, Err}
 use Rattle.std.proofs.Common.{ap, append-nil, append_assoc, arith, cond, map, refl, subst, sym, if◌then◌else◌}
 use Rattle.std.specs.Prelude.{◌==◌, IsTrue, filter, length}
-use Rattle.std.specs.Io.KnownBytes.{Appends, Keeps}
 use Rattle.std.specs.List.{AllByRecursion, flat_map}
 use Rattle.std.specs.Result.{result_ok}
 use Rattle.std.proofs.lemmas.List.{map-append}
@@ -13,7 +12,7 @@ use Rattle.pol_io.specs.Known.{Between}
 use Rattle.pol_io.specs.Pieces.{is_whole, onto_first, pieces}
 use Rattle.pol_io.proofs.Pieces.{pieces_append, pieces_piece}
 use Rattle.pol_jobs.specs.Ends.{IsRefused, refused_line, refused_input, RefusesInput, RefusesLine}
-use Rattle.pol_jobs.specs.LineWork.{AcceptsLines, Line, after_all, line_met, replies}
+use Rattle.pol_jobs.specs.LineWork.{AcceptsLines, Line, after_all, line_met}
 use Rattle.pol_jobs.proofs.Accepting.{not_accepted}
 use Rattle.pol_ledger.specs.Work.{BegunLedger}
 use Rattle.pol_operate.specs.Kept.{first_known, known_behind, operated}
@@ -111,11 +110,6 @@ module _ (start : Option BegunLedger) where
   blank_after [] blank = refl
   blank_after (piece ∷ parts) blank = rw blank.0 (blank_after parts blank.1)
 
-  -- and nothing was replied to them
-  blank_replies : (parts : List (List ℕ)) → AreBlank parts → replies operate_work (first_known start) parts ≡ []
-  blank_replies [] blank = refl
-  blank_replies (piece ∷ parts) blank = rw blank.0 (blank_replies parts blank.1)
-
   -- a policy that was said stays
   policy_stays : (policy : PlainPlantPolicy) (ledger : Option BegunLedger) (parts : List (List ℕ)) →
       (after_all operate_work (record { policy = Some policy; ledger = ledger }) parts).policy ≡ Some policy
@@ -172,14 +166,6 @@ module _ (start : Option BegunLedger) where
 
 -- ---- refusals
 
--- where nothing was appended, all is as it was
-appends_nothing : (held held' : Option (List ℕ)) (text : List ℕ) → text ≡ [] → Appends held held' text →
-    Keeps held held'
-appends_nothing None held' text none appended = tt
-appends_nothing (Some bytes) None text none appended = absurd appended
-appends_nothing (Some bytes) (Some bytes') text none appended =
-    appended ∙ ap (λ text. bytes ++ text) none ∙ append-nil bytes
-
 -- no policy is known where a line is refused, and it should say it
 refused_by : (policy : Option PlainPlantPolicy) (line : Line) (fault : JsonFault) → RefusesBy policy line fault →
     (policy ≡ None) × IsTrue (is_some_line line) × (policy_said line ≡ Err fault)
@@ -194,47 +180,40 @@ refused_end (Some policy) fault refuses = absurd refuses
 
 module _ (start : Option BegunLedger) (fault : JsonFault) (held held' : Option (List ℕ)) (bytes left : List ℕ) where
   -- with a line
-  by_line : RefusesLine (operated start) fault held held' bytes left → HasNoPolicy fault held held' bytes left
+  by_line : RefusesLine (operated start) fault held held' bytes left → HasNoPolicy fault bytes
   by_line line =
-      let refuses = refused_by (known_behind start (pieces line.done)).policy (line_met line.piece) fault line.refuses in
+      let refuses = refused_by (known_behind start (pieces line.done)).policy (line_met line.piece) fault
+      line.refuses in
       let blank = all_blank start line.done [] (pieces line.done) line.accepted refl tt refuses.0 in
       let behind = pieces (line.waiting ++ left) in
-      record {
-        unsaid = ap (λ (parts : List (List ℕ)). plant_policy_among (filter is_some_line (map line_met parts)))
-            line.is_line
-            ∙ ap (λ (lines : List Line). plant_policy_among (filter is_some_line lines))
-            (map-append line_met (pieces line.done) (line.piece ∷ behind))
-            ∙ ap plant_policy_among (filter-append is_some_line (map line_met (pieces line.done))
-            (map line_met (line.piece ∷ behind)))
-            ∙ ap (λ (lines : List Line). plant_policy_among
-            (lines ++ filter is_some_line (map line_met (line.piece ∷ behind)))) (none_some (pieces line.done) blank)
-            ∙ ap (λ (some : Bool). plant_policy_among (cond some
-            (line_met line.piece ∷ filter is_some_line (map line_met behind))
-            (filter is_some_line (map line_met behind)))) refuses.1
-            ∙ refuses.2;
-        unwritten = appends_nothing held held' _ (blank_replies start (pieces line.done) blank) line.written;
-      }
+      ap (λ (parts : List (List ℕ)). plant_policy_among (filter is_some_line (map line_met parts))) line.is_line
+      ∙ ap (λ (lines : List Line). plant_policy_among (filter is_some_line lines))
+      (map-append line_met (pieces line.done) (line.piece ∷ behind))
+      ∙ ap plant_policy_among (filter-append is_some_line (map line_met (pieces line.done))
+      (map line_met (line.piece ∷ behind)))
+      ∙ ap (λ (lines : List Line). plant_policy_among
+      (lines ++ filter is_some_line (map line_met (line.piece ∷ behind)))) (none_some (pieces line.done) blank)
+      ∙ ap (λ (some : Bool). plant_policy_among (cond some
+      (line_met line.piece ∷ filter is_some_line (map line_met behind))
+      (filter is_some_line (map line_met behind)))) refuses.1
+      ∙ refuses.2
 
   -- at its end
-  by_input : RefusesInput (operated start) fault held held' bytes left → HasNoPolicy fault held held' bytes left
+  by_input : RefusesInput (operated start) fault held held' bytes left → HasNoPolicy fault bytes
   by_input input =
       let refuses = refused_end (known_behind start (pieces bytes)).policy fault input.refuses in
       let blank = all_blank start bytes [] (pieces bytes) input.accepted refl tt refuses.0 in
-      record {
-        unsaid = ap plant_policy_among (none_some (pieces bytes) blank) ∙ refuses.1;
-        unwritten = appends_nothing held held' _ (blank_replies start (pieces bytes) blank) input.written;
-      }
+      ap plant_policy_among (none_some (pieces bytes) blank) ∙ refuses.1
 
-  -- an input that is refused has no policy, and nothing is written
-  pub refused_unsaid : IsRefused (operated start) fault held held' bytes left →
-      HasNoPolicy fault held held' bytes left
+  -- either way
+  pub refused_unsaid : IsRefused (operated start) fault held held' bytes left → HasNoPolicy fault bytes
   refused_unsaid (refused_line line) = by_line line
   refused_unsaid (refused_input input) = by_input input
 
 -- where the source tells its bytes
 pub between_unsaid : (start : Option BegunLedger) (fault : JsonFault) (held held' begin left : Option (List ℕ)) →
     Between (IsRefused (operated start) fault held held') begin left →
-    Between (HasNoPolicy fault held held') begin left
+    Between (λ bytes left. HasNoPolicy fault bytes) begin left
 between_unsaid start fault held held' None left refused = tt
 between_unsaid start fault held held' (Some bytes) None refused = absurd refused
 between_unsaid start fault held held' (Some bytes) (Some left) refused =

@@ -1,23 +1,27 @@
--- What the jobs on a kept plant leave on its disk.
+-- What the jobs on kept items leave on their disk.
 use Rattle.std.specs.Prelude.{ℕ, ◌≡◌, ◌⊎◌, List, Some}
+use Rattle.kept_jobs.specs.Leaving.{HoldsAll, HoldsOn, KeepsAllLines, KeepsLines, KeptJob}
 use Rattle.pol_io.specs.Causes.{Rose}
-use Rattle.pol_keep.specs.Leaving.{HoldsAll, HoldsOn, KeepsAllLines, KeepsLines}
+use Rattle.pol_kept.specs.Work.{ChronicleWork}
 use Rattle.pol_store.specs.Stands.{StandsForNone}
+use Rattle.pol_store.specs.Work.{plant_work}
 use Rattle.pol_cli.specs.Worked.{Disks, Edges}
 use Rattle.pol_cli.specs.declared.status.Status.{Status}
 use Rattle.pol_cli.specs.declared.status.Status.TheVariants.{Good, OutOfMemory, NotAStore}
 
--- From one state of the disk to another the events of an input were kept behind those that it read as, whatever a crash
+-- From one state of the disk to another the items of an input were kept behind those that it read as, whatever a crash
 -- before might have left of it, and the sink took what it has now; and where all is good, those of all lines were.
-pub record KeepsInput {D : Type 0} (source sink : Edges) (disk : Disks D) (status : Status) : Type 0 where
-  pub lines : KeepsLines disk.tells disk.before disk.after source.before.bytes sink.before.bytes sink.after.bytes
-  pub all : status ≡ Good → KeepsAllLines disk.tells disk.before disk.after source.before.bytes
+pub record KeepsInput {State Item Answer D : Type 0} (work : ChronicleWork State Item Answer) (job : KeptJob Item)
+    (source sink : Edges) (disk : Disks D) (status : Status) : Type 0 where
+  pub lines : KeepsLines work disk.tells job disk.before disk.after source.before.bytes sink.before.bytes
+      sink.after.bytes
+  pub all : status ≡ Good → KeepsAllLines work disk.tells job disk.before disk.after source.before.bytes
 
 -- From one state of the disk to another nothing happened to the events that it read as, whatever a crash before might
 -- have left of it; and where all is good, each image at the end stands for them.
 pub record HoldsEvents {D : Type 0} (disk : Disks D) (status : Status) : Type 0 where
-  pub events : HoldsOn disk.tells disk.before disk.after
-  pub all : status ≡ Good → HoldsAll disk.tells disk.before disk.after
+  pub events : HoldsOn plant_work disk.tells disk.before disk.after
+  pub all : status ≡ Good → HoldsAll plant_work disk.tells disk.before disk.after
 
 -- the count of the disk's faults rose
 abbrev pub DiskFailed : {D : Type 0} → Disks D → Type 0

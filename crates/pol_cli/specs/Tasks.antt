@@ -22,6 +22,7 @@ use Rattle.pol_find.specs.Starts.{BindingsStart}
 use Rattle.pol_guard.specs.Guarded.{guarded}
 use Rattle.pol_guard.specs.Laws.{GuardTheorem}
 use Rattle.pol_keep.specs.Exported.{exported_output}
+use Rattle.pol_keep.specs.Keeping.{plant_job}
 use Rattle.pol_keep.specs.Kept.{KeepEnds, kept_output}
 use Rattle.pol_keep.specs.declared.fault.KeepFault.{KeepFault}
 use Rattle.pol_migration.specs.Job.{migrating}
@@ -31,11 +32,14 @@ use Rattle.pol_kept.specs.Opens as of_items
 use Rattle.pol_ledger.specs.Work.{ledger_work}
 use Rattle.pol_operate.specs.Asked.{OperatedIsRun}
 use Rattle.pol_operate.specs.Ends.{OperateEnds}
+use Rattle.pol_operate.specs.Kept.{operate_job}
 use Rattle.pol_operate.specs.Laws.{LinesAreGuarded}
+use Rattle.pol_operate.specs.QuestionLaws.{QuestionsChangeNothing}
 use Rattle.pol_operate.specs.declared.fault.OperateFault.{OperateFault}
 use Rattle.pol_store.specs.Opens.{IsNoStore}
+use Rattle.pol_store.specs.Work.{plant_work}
 use Rattle.pol_cli.specs.Keeping.{BeginsOnStores, DiskFailed, HoldsEvents, KeepsInput}
-use Rattle.pol_cli.specs.Operating.{BeginsOnLedgers, HasNoPolicy, KeepsAsked}
+use Rattle.pol_cli.specs.Operating.{BeginsOnLedgers, HasNoPolicy}
 use Rattle.pol_cli.specs.SiteRuns.{RunWrites, planted}
 use Rattle.pol_cli.specs.Statuses.{no_refusal, refused_as, status_of, status_of_kept, status_of_operated}
 use Rattle.pol_cli.specs.Worked.{Disks, Edges, no_source}
@@ -132,7 +136,7 @@ pub record KeepingEnds {D : Type 0} (source sink : Edges) (disk : Disks D) (stat
   -- its output is that of a replay behind the events that the disk read as
   pub job : KeptEnds kept_output source sink disk status
   -- what the disk holds at the end, and what a crash at any moment leaves
-  pub keeps : KeepsInput source sink disk status
+  pub keeps : KeepsInput plant_work plant_job source sink disk status
 
 -- how an export ended
 pub record ExportEnds {D : Type 0} (source sink : Edges) (disk : Disks D) (status : Status) : Type 0 where
@@ -152,10 +156,13 @@ pub record OperatedEnds {D : Type 0} (source sink : Edges) (ledger : Disks D) (s
       source.before source.after sink.before sink.after result
   -- on a disk that is no ledger nothing is begun
   pub begins : BeginsOnLedgers ledger status
-  -- 9 only where the input has no policy; and then nothing was written
+  -- 9 only where the input has no policy
   pub unsaid : (path : List PathPart) (fault : FaultKind) → status ≡ BadPolicy path fault →
-      Between (HasNoPolicy (record { kind = fault; path = path }) sink.before.bytes sink.after.bytes)
+      Between (λ bytes left. HasNoPolicy (record { kind = fault; path = path }) bytes)
       source.before.bytes source.after.bytes
+  -- and then nothing is written, whatever the source tells of its bytes
+  pub unwritten : (path : List PathPart) (fault : FaultKind) → status ≡ BadPolicy path fault →
+      Keeps sink.before.bytes sink.after.bytes
   -- 10 only where the disk failed
   pub disk_cause : status ≡ DiskFault → DiskFailed ledger
   -- 12 only where it didn't, and its bytes stand for no items: the first record that doesn't follow stands at this
@@ -171,11 +178,14 @@ pub record OperatingEnds {D : Type 0} (source sink : Edges) (ledger : Disks D) (
   -- its output is that of the lines behind the policy, on the ledger that the disk read as
   pub job : OperatedEnds source sink ledger status
   -- what the disk holds at the end, and what a crash at any moment leaves
-  pub keeps : KeepsAsked source sink ledger status
+  pub keeps : KeepsInput ledger_work operate_job source sink ledger status
   -- whatever a line says: what it asks is allowed to whom it names, and a denial names its rule
   pub guards : LinesAreGuarded
   -- whatever the ledger and the lines: the history behind them is the run of the old events and of those they ask for
   pub runs : OperatedIsRun
+  -- whatever the lines: leaving their questions out leaves out just the replies to these, and what an event would be
+  -- answered is the reply to its line
+  pub questions : QuestionsChangeNothing
 
 -- ---- how a task ended
 

@@ -1,9 +1,9 @@
 -- What a call works on, as it was before and as it is after: a source, a sink, a disk.
 use Rattle.std.specs.Prelude.{ℕ, ◌≡◌, List, Option}
+use Rattle.kept_jobs.specs.Telling.{Telling, telling}
 use Rattle.pol_io.specs.Edge.{Edge}
 use Rattle.pol_jobs.specs.Ends.{edge}
 use Rattle.pol_keep.specs.Exported.{no_input}
-use Rattle.pol_keep.specs.Keeping.{Telling, telling}
 
 -- a source or a sink: what is known of its bytes and of its faults, and that it is just what it was
 pub record Edges : Type 1 where

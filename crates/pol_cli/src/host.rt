@@ -75,8 +75,8 @@ fn say<R: Eprint + AllocGlobal>(rt: &R, status: &Status) {
 }
 
 /// The program: it does what its words ask for (`top`), keeps a plant on this disk, or one that is operated on this
-/// ledger, where they ask for that, hands on what it wrote (`end`), says on standard error how it ended where not all is
-/// good, and ends with the status's number.
+/// ledger, where they ask for that, hands on what it wrote (`end`), says on standard error how it ended where not all
+/// is good, and ends with the status's number.
 pub fn run<R, D: Disk + Drop, L: Disk + Drop>(rt: &R, disk: D, ledger: L) -> ExitCode
 where
     R: Env + Input + Print + Eprint + Clock + AllocGlobal + Threads + Wait + Sync,

@@ -5,6 +5,7 @@ ghost use Rattle.pol_guard.specs.Laws.{GuardTheorem};
 ghost use Rattle.pol_migration.specs.Migration.{MigrationKeepsOutputs};
 ghost use Rattle.pol_operate.specs.Asked.{OperatedIsRun};
 ghost use Rattle.pol_operate.specs.Laws.{LinesAreGuarded};
+ghost use Rattle.pol_operate.specs.QuestionLaws.{QuestionsChangeNothing};
 ghost use Rattle.pol_cli.specs.Audits.{AuditTheorem};
 ghost use Rattle.pol_cli.specs.Journal.{JournalTheorem, Laws};
 
@@ -13,13 +14,13 @@ use pol_find::bindings_start;
 use pol_guard::guards_are_sound;
 use pol_history::{reports_are_paths, runs_are_legal};
 use pol_migration::migration_keeps_outputs;
-use pol_operate::{operated_are_guarded, operated_are_runs};
+use pol_operate::{operated_are_guarded, operated_are_runs, questions_change_nothing};
 use pol_removal::{removal_of_events, removal_of_lines};
 use pol_safety::{commands_are_permitted, histories_are_sound, logs_follow_charts};
 
 /// Whatever the input: the journal theorem holds of it, and so do those of an audit, of a guard and of a migration, and
-/// what is said of the lines of an operated plant. Whatever the legal history: the laws hold of it, and printed bindings
-/// start.
+/// what is said of the lines of an operated plant. Whatever the legal history: the laws hold of it, and printed
+/// bindings start.
 pub fn laws_hold()
     ensures theorem { (bytes : List ℕ) → JournalTheorem bytes }
     ensures laws { Laws }
@@ -29,6 +30,7 @@ pub fn laws_hold()
     ensures bindings { BindingsStart }
     ensures operated { LinesAreGuarded }
     ensures operations { OperatedIsRun }
+    ensures questions { QuestionsChangeNothing }
 {
     runs_are_legal();
     histories_are_sound();
@@ -43,4 +45,5 @@ pub fn laws_hold()
     bindings_start();
     operated_are_guarded();
     operated_are_runs();
+    questions_change_nothing();
 }

@@ -14,19 +14,12 @@ use Rattle.pol_jobs.specs.Ends.{IsRefused, refused_line, refused_input, RefusesL
 use Rattle.pol_jobs.specs.LineWork.{Line, after_each, line_met, replies_to}
 use Rattle.pol_policy.specs.Policies.{PlainPolicy}
 use Rattle.pol_replay.specs.Meanings.{is_some_line}
+use Rattle.pol_replay.proofs.Silent.{appends_nothing, unwritten as unwritten_waiting}
 use Rattle.pol_guard.specs.Guarded.{IsNoPolicy, behind_first, guarded, journal_of, policy_among, policy_of, replies_by}
 use Rattle.pol_guard.specs.Guarded.{policy_said, some_lines}
 use Rattle.pol_guard.specs.Laws.{RefusalsAreFaults}
 use Rattle.pol_guard.specs.Lines.{guarded_line}
 use Rattle.pol_guard.specs.Work.{Known, waiting, begun, after_some, guard_work, history_with, reply_some, said_in}
-
--- where nothing was appended, all is as it was
-appends_nothing : (held held' : Option (List ℕ)) (text : List ℕ) → text ≡ [] → Appends held held' text →
-    Keeps held held'
-appends_nothing None held' text none appended = tt
-appends_nothing (Some bytes) None text none appended = absurd appended
-appends_nothing (Some bytes) (Some bytes') text none appended =
-    appended ∙ ap (λ text. bytes ++ text) none ∙ append-nil bytes
 
 -- where the policy has a fault, nothing is replied
 nothing_replied : (said : ReadResult PlainPolicy) (fault : JsonFault) (journal : List Line) → said ≡ Err fault →
@@ -83,47 +76,22 @@ refused fault held held' bytes left (refused_input input) = (
 
 -- ---- whatever the source tells
 
--- a policy that was said stays
-policy_stays : (policy : PlainPolicy) (history : History) (lines : List Line) →
-    said_in (after_each guard_work (begun (Ok policy) history) lines) ≡ Ok policy
-policy_stays policy history [] = refl
-policy_stays policy history (line ∷ lines) =
-    by_line (is_some_line line) (λ later. policy_stays policy later lines)
-  where
-    by_line : (some : Bool) →
-        ((later : History) → said_in (after_each guard_work (begun (Ok policy) later) lines) ≡ Ok policy) →
-        said_in (after_each guard_work
-        (if some then after_some (begun (Ok policy) history) line else begun (Ok policy) history) lines)
-        ≡ Ok policy
-    by_line true rest = rest (history_with history (guarded_line policy line))
-    by_line false rest = rest history
+-- no policy is known
+abbrev IsUnsaid : Known → Type 0
+IsUnsaid known = (fault : JsonFault) × (said_in known ≡ Err fault)
 
--- where no policy is known behind some lines, nothing was replied to them
-nothing_replied_to : (fault : JsonFault) (known : Known) (lines : List Line) →
-    said_in (after_each guard_work known lines) ≡ Err fault → replies_to guard_work known lines ≡ []
-nothing_replied_to fault known [] none = refl
-nothing_replied_to fault known (line ∷ lines) none =
-    by_line (is_some_line line) known (λ later. nothing_replied_to fault later lines) none
-  where
-    other : (policy : PlainPolicy) → Ok policy ≡ Err fault → ⊥
-    other policy same = cc
-
-    by_line : (some : Bool) (known : Known) → ((later : Known) →
-        said_in (after_each guard_work later lines) ≡ Err fault → replies_to guard_work later lines ≡ []) →
-        said_in (after_each guard_work (if some then after_some known line else known) lines) ≡ Err fault →
-        (if some then reply_some known line else [])
-        ++ replies_to guard_work (if some then after_some known line else known) lines
-        ≡ []
-    by_line false known rest none = rest known none
-    by_line true waiting rest none = rest (begun (policy_said line) []) none
-    by_line true (begun (Err first) history) rest none = rest (begun (Err first) history) none
-    by_line true (begun (Ok policy) history) rest none =
-        absurd (other policy (sym (policy_stays policy (history_with history (guarded_line policy line)) lines) ∙ none))
+-- where none is known behind a line, none was before it, and nothing is replied to it
+unsaid_before : (some : Bool) (known : Known) (line : Line) →
+    IsUnsaid (if some then after_some known line else known) →
+    IsUnsaid known × ((if some then reply_some known line else []) ≡ [])
+unsaid_before false known line unsaid = (unsaid, refl)
+unsaid_before true waiting line unsaid = ((_, refl), refl)
+unsaid_before true (begun (Err fault) history) line unsaid = ((fault, refl), refl)
+unsaid_before true (begun (Ok policy) history) line unsaid = absurd (let said = unsaid.1 in cc)
 
 -- a guard that refuses its input knows no policy
 none_known : (known : Known) (fault : JsonFault) →
-    ((line : Line) × guard_work.Refuses known line fault) ⊎ guard_work.RefusesEnd known fault →
-    (fault : JsonFault) × (said_in known ≡ Err fault)
+    ((line : Line) × guard_work.Refuses known line fault) ⊎ guard_work.RefusesEnd known fault → IsUnsaid known
 none_known waiting fault refuses = (_, refl)
 none_known (begun said history) fault (inl refused) = absurd refused.1.1
 none_known (begun said history) fault (inr refuses) = (fault, refuses)
@@ -132,9 +100,9 @@ none_known (begun said history) fault (inr refuses) = (fault, refuses)
 pub unwritten : (fault : JsonFault) (held held' : Option (List ℕ)) →
     RefusesBehind guard_work waiting held held' fault → Keeps held held'
 unwritten fault held held' behind =
-    let none = none_known (after_each guard_work waiting behind.lines) fault behind.refuses in
-    appends_nothing held held' (replies_to guard_work waiting behind.lines)
-    (nothing_replied_to none.0 waiting behind.lines none.1) behind.written
+    unwritten_waiting guard_work IsUnsaid
+    (record { silent = λ known line. unsaid_before (is_some_line line) known line; refusing = none_known })
+    waiting fault held held' behind
 
 -- ---- the law
 

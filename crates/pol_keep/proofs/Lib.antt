@@ -1,7 +1,6 @@
-pub mod Settling
+pub mod Stored
 pub mod Running
 pub mod Ended
 pub mod Orderly
 pub mod Exported
-pub mod Lives
 pub mod Replayable

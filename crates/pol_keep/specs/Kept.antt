@@ -11,7 +11,6 @@ use Rattle.pol_io.specs.Edge.{Edge}
 use Rattle.pol_io.specs.Pieces.{pieces}
 use Rattle.pol_jobs.specs.Ends.{Completes, Ends}
 use Rattle.pol_jobs.specs.LineWork.{Output, texts_of}
-use Rattle.pol_jobs.specs.Written.{WritesSome}
 use Rattle.pol_jobs.specs.declared.fault.JobFault.{JobFault}
 use Rattle.pol_jobs.specs.declared.fault.JobFault.TheVariants as job
 use Rattle.pol_record.specs.Lines.{answered_lines_after, answered_texts, closing_text, events_in, input_line_of}
@@ -46,23 +45,6 @@ answers_with old lines = answered_texts (answered_lines_after (history_after [] 
 abbrev pub kept_output : List PlainEvent → Output Infallible
 kept_output old =
     texts_of (λ bytes. answers_with old (pieces bytes)) (λ bytes. closing_text (run_with old (pieces bytes)))
-
--- the image stands for the old events and the new ones of the first lines of an input
-pub record StandsForMore (old : List PlainEvent) (input image : List ℕ) : Type 0 where
-  pub first : List (List ℕ)
-  pub others : List (List ℕ)
-  pub are : pieces input ≡ first ++ others
-  pub stands : StandsFor (events_with old first) image
-
--- the same; and these are all lines, or the sink took no more than the answers to them: so each line whose answer it
--- took whole is one of them
-pub record StandsForAnswered (old : List PlainEvent) (input : List ℕ) (held held' : Option (List ℕ)) (image : List ℕ)
-    : Type 0 where
-  pub first : List (List ℕ)
-  pub others : List (List ℕ)
-  pub are : pieces input ≡ first ++ others
-  pub stands : StandsFor (events_with old first) image
-  pub taken : (others ≡ []) ⊎ WritesSome held held' (answers_with old first)
 
 -- ---- how it ends
 

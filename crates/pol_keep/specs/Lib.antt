@@ -1,6 +1,3 @@
-pub mod Keeping
-pub mod Going
 pub mod Kept
-pub mod Leaving
-pub mod Life
+pub mod Keeping
 pub mod Exported

@@ -1,14 +1,15 @@
 //! The answer to an event, on a kept plant.
 ghost use Rattle.std.specs.Prelude.{◌≡◌, ◌++◌, true, IfErr, IsTrue, OnOk};
-ghost use Rattle.std.specs.Result.{is_ok};
+ghost use Rattle.kept_jobs.specs.Keeping.{Admits};
 ghost use Rattle.pol_core.specs.Plants.{plant_history};
 ghost use Rattle.pol_events.specs.Events.{plain_event};
 ghost use Rattle.pol_events.specs.Orderly.{is_orderly};
 ghost use Rattle.pol_history.specs.Answers.{answer_of};
-ghost use Rattle.pol_history.specs.Runs.{entry_of, recorded};
+ghost use Rattle.pol_history.specs.Runs.{entry_of, events_of, recorded};
 ghost use Rattle.pol_jobs.specs.Faults.{FailedSo};
 ghost use Rattle.pol_record.specs.Texts.{answer_text};
-ghost use Rattle.pol_keep.specs.Keeping.{Admits};
+ghost use Rattle.pol_store.specs.Work.{plant_work};
+ghost use Rattle.pol_keep.specs.Keeping.{kept_plant};
 
 use crate::fault::DiskFailed;
 use pol_disk::Disk;
@@ -20,7 +21,7 @@ use std::alloc::Global;
 use std::convert::Infallible;
 
 /// Admits an event, which waits to be kept then, and puts the line of the plant's answer behind what a buffer holds.
-#[tactic(auto, using(crate::proofs::Settling::admitted, crate::proofs::Settling::refused))]
+#[tactic(auto, using(crate::proofs::Stored::admitted, crate::proofs::Stored::refused))]
 pub fn answer_event<D: Disk>(
     alloc: Global,
     store: &mut Store<D>,
@@ -32,9 +33,8 @@ pub fn answer_event<D: Disk>(
         ≡ out.old.items ++ answer_text (answer_of (plant_history store.old.plant) (plain_event event))) }
     ensures history { OnOk result (plant_history store.new.plant
         ≡ recorded (entry_of (plant_history store.old.plant) (plain_event event)) (plant_history store.old.plant)) }
-    ensures admits { Admits store.old store.new
-        (recorded (entry_of (plant_history store.old.plant) (plain_event event)) (plant_history store.old.plant))
-        (is_ok result) }
+    ensures admits { Admits plant_work plant_history (kept_plant store.old) (kept_plant store.new) (events_of
+        (recorded (entry_of (plant_history store.old.plant) (plain_event event)) (plant_history store.old.plant))) }
     ensures failed { IfErr result (FailedSo (store.new.closed ≡ true)) }
 {
     match store.admit(event) {

@@ -1,6 +1,8 @@
 //! The events of a kept plant, written as the lines of a journal.
 ghost use Rattle.std.specs.Prelude.{◌≡◌, ◌≢◌, ◌++◌, ◌∷◌, [], ℕ, List, Some, IfErr, IfSome, OnErr, OnOk};
 ghost use Rattle.std.specs.Io.KnownBytes.{Appends};
+ghost use Rattle.kept_jobs.specs.Leaving.{HoldsAll, HoldsOn};
+ghost use Rattle.kept_jobs.specs.Telling.{telling};
 ghost use Rattle.pol_core.specs.Plants.{plant_history};
 ghost use Rattle.pol_disk.specs.Disks.{told_through};
 ghost use Rattle.pol_events.specs.Events.{PlainEvent};
@@ -10,9 +12,8 @@ ghost use Rattle.pol_jobs.specs.Ends.{Ends, edge};
 ghost use Rattle.pol_jobs.specs.Written.{WritesPart};
 ghost use Rattle.pol_store.specs.Opens.{IsNoStore};
 ghost use Rattle.pol_store.specs.Stands.{StandsFor, StandsForNone};
+ghost use Rattle.pol_store.specs.Work.{plant_work};
 ghost use Rattle.pol_keep.specs.Exported.{HandsOn, exported_output, journal_text, no_input};
-ghost use Rattle.pol_keep.specs.Keeping.{telling};
-ghost use Rattle.pol_keep.specs.Leaving.{HoldsAll, HoldsOn};
 ghost use Rattle.pol_keep.specs.Kept.{IsUnopened, KeepEnds, job_result};
 
 use crate::fault::{KeepFault, put_ended, unopened};
@@ -98,8 +99,8 @@ fn export_from<K: Sink, D: Disk>(
 pub fn export<K: Sink, D: Disk>(alloc: Global, sink: &mut K, disk: D) -> (Result<(), KeepFault>, D)
     ensures ends { KeepEnds exported_output (told_through (D.bytes disk) (D.bytes result.1)) no_input no_input
         (edge (K.held sink.old) (K.faults sink.old)) (edge (K.held sink.new) (K.faults sink.new)) result.0 }
-    ensures holds { HoldsOn (telling D.bytes D.images D.moment D.left_since D.faults) disk result.1 }
-    ensures holds_all { OnOk result.0 (HoldsAll (telling D.bytes D.images D.moment D.left_since D.faults)
+    ensures holds { HoldsOn plant_work (telling D.bytes D.images D.moment D.left_since D.faults) disk result.1 }
+    ensures holds_all { OnOk result.0 (HoldsAll plant_work (telling D.bytes D.images D.moment D.left_since D.faults)
         disk result.1) }
     ensures disk_cause { IfErr result.0 (λ fault. fault ≡ KeepFault.Disk → Rose (D.faults disk) (D.faults result.1)) }
     ensures no_store { IfErr result.0 (λ fault. (place : ℕ) → fault ≡ KeepFault.NotAStore place

@@ -1,5 +1,8 @@
 //! The job on a kept plant.
 ghost use Rattle.std.specs.Prelude.{◌≡◌, ◌≢◌, ℕ, List, Some, false, IfErr, IfSome, OnOk};
+ghost use Rattle.kept_jobs.specs.Keeping.{IsKept};
+ghost use Rattle.kept_jobs.specs.Leaving.{KeepsAllLines, KeepsLines, StandsForAnswered, StandsForMore};
+ghost use Rattle.kept_jobs.specs.Telling.{telling};
 ghost use Rattle.pol_core.specs.Plants.{plant_history};
 ghost use Rattle.pol_disk.specs.Disks.{LeavesOnly, ToldOn, told_through};
 ghost use Rattle.pol_history.specs.Runs.{IsLegal, events_of};
@@ -8,10 +11,9 @@ ghost use Rattle.pol_io.specs.Pieces.{pieces};
 ghost use Rattle.pol_jobs.specs.Ends.{Ends, edge};
 ghost use Rattle.pol_store.specs.Opens.{IsNoStore};
 ghost use Rattle.pol_store.specs.Stands.{StandsFor, StandsForNone};
-ghost use Rattle.pol_keep.specs.Keeping.{IsKept, telling};
-ghost use Rattle.pol_keep.specs.Leaving.{KeepsAllLines, KeepsLines};
-ghost use Rattle.pol_keep.specs.Kept.{IsUnopened, KeepEnds, StandsForAnswered, StandsForMore, events_with, job_result};
-ghost use Rattle.pol_keep.specs.Kept.{kept_output};
+ghost use Rattle.pol_store.specs.Work.{plant_work};
+ghost use Rattle.pol_keep.specs.Keeping.{plant_job, plant_state};
+ghost use Rattle.pol_keep.specs.Kept.{IsUnopened, KeepEnds, answers_with, events_with, job_result, kept_output};
 
 use crate::fault::{KeepFault, ended, unopened};
 use crate::keeping::Keeping;
@@ -38,13 +40,15 @@ fn keep_on<S: Source, K: Sink, D: Disk>(
         → Rose (D.faults store.disk) (D.faults result.1)) }
     ensures is_store { IfErr result.0 (λ fault. (place : ℕ) → fault ≢ KeepFault.NotAStore place) }
     ensures on { ToldOn (D.bytes store.disk) (D.bytes result.1) }
-    ensures moments { IsKept (telling D.bytes D.images D.moment D.left_since D.faults) store
-        → IfSome (S.left source.old) (λ input. LeavesOnly D.moment D.left_since store.disk result.1
-        (StandsForMore (events_of (plant_history store.plant)) input)) }
-    ensures kept { IsKept (telling D.bytes D.images D.moment D.left_since D.faults) store
-        → IfSome (S.left source.old) (λ input. (image : List ℕ) → D.images result.1 image
-        → StandsForAnswered (events_of (plant_history store.plant)) input (K.held sink.old) (K.held sink.new) image) }
-    ensures kept_all { OnOk result.0 (IsKept (telling D.bytes D.images D.moment D.left_since D.faults) store
+    ensures moments { IsKept plant_work events_of (telling D.bytes D.images D.moment D.left_since D.faults)
+        (plant_state store) → IfSome (S.left source.old) (λ input. LeavesOnly D.moment D.left_since store.disk result.1
+        (StandsForMore plant_work (events_with (events_of (plant_history store.plant))) input)) }
+    ensures kept { IsKept plant_work events_of (telling D.bytes D.images D.moment D.left_since D.faults)
+        (plant_state store) → IfSome (S.left source.old) (λ input. (image : List ℕ) → D.images result.1 image
+        → StandsForAnswered plant_work (events_with (events_of (plant_history store.plant)))
+        (answers_with (events_of (plant_history store.plant))) input (K.held sink.old) (K.held sink.new) image) }
+    ensures kept_all { OnOk result.0 (IsKept plant_work events_of
+        (telling D.bytes D.images D.moment D.left_since D.faults) (plant_state store)
         → IfSome (S.left source.old) (λ input. (image : List ℕ) → D.images result.1 image
         → StandsFor (events_with (events_of (plant_history store.plant)) (pieces input)) image)) }
 {
@@ -74,10 +78,10 @@ pub fn keep<S: Source, K: Sink, D: Disk>(
     ensures ends { KeepEnds kept_output (told_through (D.bytes disk) (D.bytes result.1))
         (edge (S.left source.old) (S.faults source.old)) (edge (S.left source.new) (S.faults source.new))
         (edge (K.held sink.old) (K.faults sink.old)) (edge (K.held sink.new) (K.faults sink.new)) result.0 }
-    ensures keeps { KeepsLines (telling D.bytes D.images D.moment D.left_since D.faults) disk result.1
-        (S.left source.old) (K.held sink.old) (K.held sink.new) }
-    ensures keeps_all { OnOk result.0 (KeepsAllLines (telling D.bytes D.images D.moment D.left_since D.faults)
-        disk result.1 (S.left source.old)) }
+    ensures keeps { KeepsLines plant_work (telling D.bytes D.images D.moment D.left_since D.faults) plant_job
+        disk result.1 (S.left source.old) (K.held sink.old) (K.held sink.new) }
+    ensures keeps_all { OnOk result.0 (KeepsAllLines plant_work
+        (telling D.bytes D.images D.moment D.left_since D.faults) plant_job disk result.1 (S.left source.old)) }
     ensures disk_cause { IfErr result.0 (λ fault. fault ≡ KeepFault.Disk → Rose (D.faults disk) (D.faults result.1)) }
     ensures no_store { IfErr result.0 (λ fault. (place : ℕ) → fault ≡ KeepFault.NotAStore place
         → (D.faults result.1 ≡ D.faults disk) × IfSome (D.bytes result.1) (λ all. IsNoStore all place)) }

@@ -27,21 +27,27 @@ pub struct Keeping<D: Disk> {
 impl<D: Disk> Answering<JournalLines> for Keeping<D> {
     type Halt = Stop<Infallible, DiskFailed>;
 
-    ghost use Rattle.std.specs.Prelude.{◌≡◌, ◌++◌, true, false};
+    ghost use Rattle.std.specs.Prelude.{◌≡◌, ◌++◌, true};
     ghost use Rattle.std.proofs.Common.{append-nil, refl, sym};
+    ghost use Rattle.kept_jobs.specs.Keeping.{Admits};
+    ghost use Rattle.kept_jobs.proofs.Admitting.{untouched};
     ghost use Rattle.pol_core.specs.Plants.{plant_history};
-    ghost use Rattle.pol_history.specs.Looking.{History};
+    ghost use Rattle.pol_history.specs.Runs.{events_of};
     ghost use Rattle.pol_jobs.specs.Faults.{FailedSo};
     ghost use Rattle.pol_replay.specs.Replay.{replay_work};
-    ghost use Rattle.pol_keep.specs.Keeping.{Admits};
+    ghost use Rattle.pol_store.specs.Work.{plant_work};
+    ghost use Rattle.pol_keep.specs.Keeping.{kept_plant};
 
     ghost Answers = { λ before now held holds line.
         (holds ≡ held ++ replay_work.reply (plant_history before.store.plant) line)
         × (plant_history now.store.plant ≡ replay_work.after (plant_history before.store.plant) line)
-        × Admits before.store now.store (replay_work.after (plant_history before.store.plant) line) true };
+        × Admits plant_work plant_history (kept_plant before.store) (kept_plant now.store)
+        (events_of (replay_work.after (plant_history before.store.plant) line)) };
 
     ghost Halts = { λ before now line stop.
-        ((after : History) → Admits before.store now.store after false) × FailedSo (now.store.closed ≡ true) stop };
+        Admits plant_work plant_history (kept_plant before.store) (kept_plant now.store)
+        (events_of (replay_work.after (plant_history before.store.plant) line))
+        × FailedSo (now.store.closed ≡ true) stop };
 
     #[inline(always)]
     #[tactic(auto, using(pol_replay::proofs::Replied::to_event))]
@@ -54,7 +60,7 @@ impl<D: Disk> Answering<JournalLines> for Keeping<D> {
         answer_event(self.alloc, &mut self.store, event, out)
     }
 
-    #[tactic(auto, using(pol_replay::proofs::Replied::to_fault, crate::proofs::Settling::uncalled))]
+    #[tactic(auto, using(pol_replay::proofs::Replied::to_fault, kept_jobs::proofs::Admitting::untouched))]
     fn fault(
         &mut self,
         _line: InputLine<'_>,
@@ -65,7 +71,7 @@ impl<D: Disk> Answering<JournalLines> for Keeping<D> {
         Ok(())
     }
 
-    #[tactic(auto, using(crate::proofs::Settling::refused))]
+    #[tactic(auto, using(kept_jobs::proofs::Admitting::untouched))]
     fn no_memory(&self) -> Stop<Infallible, DiskFailed> {
         Stop::Memory
     }
@@ -73,12 +79,8 @@ impl<D: Disk> Answering<JournalLines> for Keeping<D> {
     ghost answers_blank = { λ keeping held line blank. (
       rw blank (sym (append-nil held)),
       rw blank refl,
-      rw blank (record {
-        uncalled = refl;
-        opened = λ opened. opened;
-        history = λ is_whole. refl;
-        waits = λ is_whole kept group parts. (group, parts);
-      }),
+      rw blank (untouched plant_work plant_history (kept_plant keeping.store)
+          (events_of (plant_history keeping.store.plant))),
     ) };
 }
 
@@ -97,11 +99,15 @@ impl<D: Disk> LineJob for Keeping<D> {
 
     ghost HANDS_ON_EACH = { true };
 
-    ghost use Rattle.pol_history.specs.Looking.{History};
+    ghost use Rattle.kept_jobs.specs.Going.{goes_nowhere};
+    ghost use Rattle.kept_jobs.specs.Keeping.{GoesOn};
+    ghost use Rattle.kept_jobs.specs.Telling.{telling};
     ghost use Rattle.pol_core.specs.Plants.{plant_history};
+    ghost use Rattle.pol_history.specs.Looking.{History};
+    ghost use Rattle.pol_history.specs.Runs.{events_of};
     ghost use Rattle.pol_replay.specs.Replay.{replay_work};
-    ghost use Rattle.pol_keep.specs.Going.{goes_nowhere};
-    ghost use Rattle.pol_keep.specs.Keeping.{GoesOn, telling};
+    ghost use Rattle.pol_store.specs.Work.{plant_work};
+    ghost use Rattle.pol_keep.specs.Keeping.{plant_state};
 
     ghost State = { History };
 
@@ -110,10 +116,12 @@ impl<D: Disk> LineJob for Keeping<D> {
     ghost work = { replay_work };
 
     ghost Did = { λ first now settled waiting whole.
-        GoesOn (telling D.bytes D.images D.moment D.left_since D.faults) first.store now.store settled waiting whole };
+        GoesOn plant_work replay_work events_of (telling D.bytes D.images D.moment D.left_since D.faults)
+        (plant_state first.store) (plant_state now.store) settled waiting whole };
 
     ghost did_nothing = { λ keeping.
-        goes_nowhere (telling D.bytes D.images D.moment D.left_since D.faults) D.only_now keeping.store };
+        goes_nowhere plant_work replay_work events_of (telling D.bytes D.images D.moment D.left_since D.faults)
+        D.only_now (plant_state keeping.store) };
 
     ghost HasFailed = { λ keeping. keeping.store.closed ≡ true };
 

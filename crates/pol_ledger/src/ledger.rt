@@ -92,6 +92,13 @@ impl Ledger {
         self.names[place]
     }
 
+    /// Who asked for each event, in order; None where nobody was named.
+    pub fn persons(&self) -> &[Option<Name>]
+        ensures { result.now ≡ self.now.names }
+    {
+        &self.names
+    }
+
     /// The sum of the last record; None where there is none.
     pub fn sum(&self) -> Option<[u8; 32]>
         ensures { bytes_before result ≡ sum_of (items_of (ledger_state self.now)) }

@@ -1,8 +1,12 @@
 //! The lines of a journal.
 
+use crate::events::read_members;
 use crate::faults::read_fault;
 use crate::forms::LineForm;
-use crate::reading::read_quick;
+use crate::modules::read_described;
+use crate::objects::{Cut, begin_object, ends, read_flats};
+use crate::recipes::read_recipe;
+use arrayvec::ArrayVec;
 use event_json::{LineFault, LineRefusal, read_event};
 use pol_events::Event;
 use std::alloc::Global;
@@ -24,9 +28,18 @@ impl LineForm for JournalLines {
 
     ghost said_of = { event_of };
 
-    #[inline(always)]
+    #[inline(never)]
+    #[tactic(auto, using(event_json::proofs::Orderly::line_orderly))]
     fn read_quickly(alloc: Global, line: &[u8]) -> Option<Event> {
-        read_quick(alloc, line)
+        let mut members = ArrayVec::new();
+        let cut = begin_object(line)?;
+        let cut = read_flats(cut, &mut members);
+        match cut {
+            Cut::More([b'"', b'd', ..]) => read_described(alloc, line, cut, &mut members),
+            Cut::More([b'"', b'r', ..]) => read_recipe(alloc, line, cut, &mut members),
+            _ if ends(cut, line) => read_members(members.as_slice()),
+            _ => None,
+        }
     }
 
     fn fault_quickly(alloc: Global, line: &[u8]) -> Option<LineFault> {

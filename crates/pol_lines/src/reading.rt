@@ -4,31 +4,18 @@ ghost use Rattle.pol_events.specs.Events.{plain_event};
 ghost use Rattle.pol_events.specs.Orderly.{is_orderly};
 ghost use Rattle.event_json.specs.Lines.{Tells, event_of};
 
-use crate::events::read_members;
-use crate::modules::read_described;
-use crate::objects::{Cut, begin_object, ends, read_flats};
-use crate::recipes::read_recipe;
-use arrayvec::ArrayVec;
+use crate::forms::LineForm;
+use crate::journal::JournalLines;
 use event_json::{LineRefusal, read_event};
 use pol_events::Event;
 use std::alloc::Global;
 
 /// The event that a compact line says; None for some lines that say one, and for each that says none.
-#[inline(never)]
-#[tactic(auto, using(event_json::proofs::Orderly::line_orderly))]
 pub fn read_quick(alloc: Global, line: &[u8]) -> Option<Event>
     ensures says { IfSome result (λ event. event_of line.now ≡ Ok (plain_event event)) }
     ensures orderly { IfSome result (λ event. IsTrue (is_orderly (plain_event event))) }
 {
-    let mut members = ArrayVec::new();
-    let cut = begin_object(line)?;
-    let cut = read_flats(cut, &mut members);
-    match cut {
-        Cut::More([b'"', b'd', ..]) => read_described(alloc, line, cut, &mut members),
-        Cut::More([b'"', b'r', ..]) => read_recipe(alloc, line, cut, &mut members),
-        _ if ends(cut, line) => read_members(members.as_slice()),
-        _ => None,
-    }
+    JournalLines::read_quickly(alloc, line)
 }
 
 /// The event that a line of a journal says; else the line's first fault in reading order, with its path; else, where

@@ -4,7 +4,10 @@ pub mod Endings
 pub mod Going
 pub mod Orderly
 pub mod Found
+pub mod Unsaid
 pub mod Ended
 pub mod Lives
 pub mod Runs
+pub mod Foreseen
+pub mod Quiet
 pub mod Guarded

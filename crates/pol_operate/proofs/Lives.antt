@@ -3,12 +3,12 @@ use Rattle.std.proofs.Common.{ℕ, ◌≡◌, ◌∙◌, List, [], ◌∷◌, �
 use Rattle.std.proofs.Common.{append-nil, append_assoc, sym}
 use Rattle.kept_jobs.specs.Life.{KeepsOld}
 use Rattle.kept_jobs.proofs.Running.{items_more}
-use Rattle.named_lines.specs.Named.{PlainNamed, named_of}
+use Rattle.named_lines.specs.Named.{PlainNamed}
 use Rattle.pol_jobs.specs.LineWork.{Line}
 use Rattle.pol_kept.specs.Stands.{AreTextsOf}
 use Rattle.pol_policy.specs.declared.verdict.Verdict.{Verdict}
 use Rattle.pol_policy.specs.declared.verdict.Verdict.TheVariants.{Allowed, Denied}
-use Rattle.pol_replay.specs.Meanings.{LineMeaning, at_fault, meaning_met, nothing, says}
+use Rattle.pol_replay.specs.Meanings.{LineMeaning, at_fault, nothing, says}
 use Rattle.pol_rights.specs.Rules.{PlainPlantPolicy}
 use Rattle.pol_ledger.specs.Items.{PlainItem, asked, header}
 use Rattle.pol_ledger.specs.Lawful.{ledgers_are_lawful}
@@ -17,7 +17,8 @@ use Rattle.pol_ledger.specs.Work.{BegunLedger, items_of, keeps_item, ledger_afte
 use Rattle.pol_operate.specs.Kept.{asked_in, first_known, ledger_of, operate_job}
 use Rattle.pol_operate.specs.Lines.{asked_by, by_verdict, verdict_under}
 use Rattle.pol_operate.specs.Operated.{known_items}
-use Rattle.pol_operate.specs.Work.{ledger_by, ledger_met, ledger_with, operate_work}
+use Rattle.pol_operate.specs.Saying.{ledger_met, ledger_with}
+use Rattle.pol_operate.specs.Work.{ledger_by, operate_work, said_by}
 
 -- the later items are the earlier ones and more
 abbrev pub Grows : Option BegunLedger → Option BegunLedger → Type 0
@@ -47,7 +48,7 @@ grows_said ledger said (Some (Allowed name)) = grows_item ledger (asked (asked_b
 grows_line : (policy : Option PlainPlantPolicy) (ledger : Option BegunLedger) (line : Line) →
     Grows ledger (ledger_by policy ledger line)
 grows_line None ledger line = stays ledger
-grows_line (Some policy) ledger line = by_meaning (meaning_met named_of line)
+grows_line (Some policy) ledger line = by_meaning (said_by line)
   where
     by_meaning : (meaning : LineMeaning PlainNamed) → Grows ledger (ledger_met (Some policy) ledger meaning)
     by_meaning nothing = stays ledger

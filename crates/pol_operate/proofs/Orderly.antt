@@ -23,7 +23,9 @@ use Rattle.pol_ledger.specs.Work.{BegunLedger, asked_after, history_of, items_of
 use Rattle.pol_operate.specs.Kept.{first_known, known_behind}
 use Rattle.pol_operate.specs.Lines.{asked_by, by_verdict, verdict_under}
 use Rattle.pol_operate.specs.Texts.{history_in, so_far_in}
-use Rattle.pol_operate.specs.Work.{Known, ledger_by, ledger_met, ledger_with, operate_work}
+use Rattle.pol_operate.specs.Questions.{asks}
+use Rattle.pol_operate.specs.Saying.{ledger_met, ledger_with}
+use Rattle.pol_operate.specs.Work.{Known, ledger_by, operate_work, said_by}
 
 -- what was asked for is as lines say it
 abbrev pub AreSound : List PlainAsked → Type 0
@@ -68,18 +70,27 @@ met_orderly (Some text) said is = by_blank (list_all is_blank_byte text) (named_
         let same : found ≡ said = cc in (line_said text said (told ∙ (λ i. Ok (same i)))).orderly
     by_blank false (Err fault) told is = cc
 
+-- an event that a line says which doesn't ask
+said_orderly : (line : Line) (said : PlainNamed) → said_by line ≡ says said → is_orderly said.event ≡ true
+said_orderly line said is = by_asking (asks line) is
+  where
+    by_asking : (asking : Bool) → (if asking then nothing else meaning_met named_of line) ≡ says said →
+        is_orderly said.event ≡ true
+    by_asking true is = cc
+    by_asking false is = met_orderly line said is
+
 -- behind a line
 sound_line : (policy : Option PlainPlantPolicy) (ledger : Option BegunLedger) (line : Line) →
     AreSound (so_far_in ledger) → AreSound (so_far_in (ledger_by policy ledger line))
 sound_line None ledger line sound = sound
-sound_line (Some policy) ledger line sound = by_meaning (meaning_met named_of line) refl
+sound_line (Some policy) ledger line sound = by_meaning (said_by line) refl
   where
-    by_meaning : (meaning : LineMeaning PlainNamed) → meaning_met named_of line ≡ meaning →
+    by_meaning : (meaning : LineMeaning PlainNamed) → said_by line ≡ meaning →
         AreSound (so_far_in (ledger_met (Some policy) ledger meaning))
     by_meaning nothing is = sound
     by_meaning (at_fault fault) is = sound
     by_meaning (says said) is =
-        sound_said ledger said (verdict_under (Some policy) said) sound (met_orderly line said is)
+        sound_said ledger said (verdict_under (Some policy) said) sound (said_orderly line said is)
 
 -- behind lines
 sound_lines : (known : Known) (lines : List (List ℕ)) → AreSound (so_far_in known.ledger) →

@@ -2,22 +2,23 @@
 use Rattle.std.proofs.Common.{ℕ, ◌≡◌, ◌∙◌, List, [], ◌∷◌, ◌++◌, Bool, true, false, Option, Some, None, ap, refl}
 use Rattle.std.proofs.Common.{sym, if◌then◌else◌}
 use Rattle.std.proofs.lemmas.List.{map-append}
-use Rattle.named_lines.specs.Named.{PlainNamed, named_of}
+use Rattle.named_lines.specs.Named.{PlainNamed}
 use Rattle.pol_history.specs.Answers.{answer_of}
 use Rattle.pol_history.specs.Looking.{History}
-use Rattle.pol_history.specs.Runs.{history_after, is_recorded}
+use Rattle.pol_history.specs.Runs.{entry_of, history_after, is_recorded, recorded}
 use Rattle.pol_jobs.specs.LineWork.{Line, after_all, line_met}
 use Rattle.pol_policy.specs.declared.verdict.Verdict.{Verdict}
 use Rattle.pol_policy.specs.declared.verdict.Verdict.TheVariants.{Allowed, Denied}
 use Rattle.pol_record.proofs.Appending.{history_after_append}
-use Rattle.pol_replay.specs.Meanings.{LineMeaning, at_fault, meaning_met, nothing, says}
+use Rattle.pol_replay.specs.Meanings.{LineMeaning, at_fault, nothing, says}
 use Rattle.pol_rights.specs.Rules.{PlainPlantPolicy}
 use Rattle.pol_ledger.specs.Items.{PlainAsked}
 use Rattle.pol_ledger.specs.Work.{BegunLedger, asked_after, history_of}
 use Rattle.pol_operate.specs.Asked.{OperatedIsRun, asked_by_line, asked_by_lines, asked_of, asked_saying, events_asked}
 use Rattle.pol_operate.specs.Lines.{asked_by, by_verdict, verdict_under}
 use Rattle.pol_operate.specs.Texts.{history_in}
-use Rattle.pol_operate.specs.Work.{Known, ledger_by, ledger_met, ledger_with, operate_work}
+use Rattle.pol_operate.specs.Saying.{ledger_met, ledger_with}
+use Rattle.pol_operate.specs.Work.{Known, ledger_by, operate_work, said_by}
 
 -- the ledger is one that was begun, whose history goes on from this one by these events
 pub record GoesOnBy (history : History) (all : List PlainAsked) (later : Option BegunLedger) : Type 0 where
@@ -50,6 +51,12 @@ goes_on ledger one = record {
     by_kept false is =
         ap (λ (b : Bool). history_of (if b then so_far ++ one ∷ [] else so_far)) is ∙ rw is refl
 
+-- so the history behind an event that was asked for is the one before it, with its entry
+pub history_more : (so_far : List PlainAsked) (one : PlainAsked) →
+    history_of (asked_after so_far one) ≡ recorded (entry_of (history_of so_far) one.event) (history_of so_far)
+unfolding goes_on
+history_more so_far one = (goes_on (record { build = []; so_far = so_far }) one).runs
+
 -- behind what a line says
 goes_said : (ledger : BegunLedger) (said : PlainNamed) (verdict : Option Verdict) →
     GoesOnBy (history_of ledger.so_far) (asked_of (by_verdict said verdict))
@@ -62,7 +69,7 @@ goes_said ledger said (Some (Allowed name)) = goes_on ledger (asked_by said)
 goes_line : (policy : Option PlainPlantPolicy) (ledger : BegunLedger) (line : Line) →
     GoesOnBy (history_of ledger.so_far) (asked_by_line policy line) (ledger_by policy (Some ledger) line)
 goes_line None ledger line = stays ledger
-goes_line (Some policy) ledger line = by_meaning (meaning_met named_of line)
+goes_line (Some policy) ledger line = by_meaning (said_by line)
   where
     by_meaning : (meaning : LineMeaning PlainNamed) → GoesOnBy (history_of ledger.so_far)
         (asked_saying policy meaning) (ledger_met (Some policy) (Some ledger) meaning)

@@ -12,7 +12,7 @@ use Rattle.pol_rights.specs.PlainPlantPolicy.{plain_plant_policy}
 use Rattle.pol_rights.specs.declared.plant_policy.PlantPolicy.{PlantPolicy}
 use Rattle.pol_ledger.specs.Ledgers.{PlainLedger, ledger_state}
 use Rattle.pol_ledger.specs.Work.{items_of, ledger_work}
-use Rattle.pol_operate.specs.Work.{ledger_met, text_met}
+use Rattle.pol_operate.specs.Saying.{ledger_met, text_met}
 use Rattle.pol_operate.specs.declared.fault.DiskFailed.{DiskFailed}
 
 module _ {D : Type 0} (policy : Option PlantPolicy) (before now : KeptState PlainLedger D) where

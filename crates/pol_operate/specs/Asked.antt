@@ -1,17 +1,17 @@
 -- What is asked of the ledger by lines, each with its line feed, and the run of the old and the new events.
 use Rattle.std.specs.Prelude.{ℕ, ◌≡◌, List, [], ◌∷◌, ◌++◌, map, Option, Some, None}
-use Rattle.named_lines.specs.Named.{PlainNamed, named_of}
+use Rattle.named_lines.specs.Named.{PlainNamed}
 use Rattle.pol_events.specs.Events.{PlainEvent}
 use Rattle.pol_history.specs.Runs.{history_after}
 use Rattle.pol_jobs.specs.LineWork.{Line, line_met}
-use Rattle.pol_replay.specs.Meanings.{LineMeaning, at_fault, meaning_met, nothing, says}
+use Rattle.pol_replay.specs.Meanings.{LineMeaning, at_fault, nothing, says}
 use Rattle.pol_rights.specs.Rules.{PlainPlantPolicy}
 use Rattle.pol_ledger.specs.Items.{PlainAsked}
 use Rattle.pol_ledger.specs.Work.{BegunLedger}
 use Rattle.pol_operate.specs.Kept.{known_behind}
 use Rattle.pol_operate.specs.Lines.{OperatedLine, admitted, denied, faulty, operated_saying}
 use Rattle.pol_operate.specs.Texts.{history_in}
-use Rattle.pol_operate.specs.Work.{policy_by}
+use Rattle.pol_operate.specs.Work.{policy_by, said_by}
 
 -- what is asked by what comes of a line
 abbrev pub asked_of : OperatedLine → List PlainAsked
@@ -28,7 +28,7 @@ asked_saying policy (says said) = asked_of (operated_saying (Some policy) said)
 -- by a line: nothing before a policy is known
 abbrev pub asked_by_line : Option PlainPlantPolicy → Line → List PlainAsked
 asked_by_line None line = []
-asked_by_line (Some policy) line = asked_saying policy (meaning_met named_of line)
+asked_by_line (Some policy) line = asked_saying policy (said_by line)
 
 -- by lines, where this policy is known
 abbrev pub asked_by_lines : Option PlainPlantPolicy → List (List ℕ) → List PlainAsked

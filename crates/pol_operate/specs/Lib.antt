@@ -1,5 +1,7 @@
 pub mod Texts
 pub mod Lines
+pub mod Saying
+pub mod Questions
 pub mod Work
 pub mod Operated
 pub mod Answered
@@ -8,3 +10,4 @@ pub mod Kept
 pub mod Ends
 pub mod Asked
 pub mod Laws
+pub mod QuestionLaws

@@ -5,19 +5,15 @@ use Rattle.mtp_json.specs.ReadResult.{ReadResult, here}
 use Rattle.mtp_json.specs.declared.fault.FaultKind.TheVariants.{Missing, TooLong}
 use Rattle.mtp_json.specs.declared.fault.JsonFault.{JsonFault}
 use Rattle.named_lines.specs.Named.{PlainNamed, named_of}
-use Rattle.pol_history.specs.Looking.{History}
 use Rattle.pol_jobs.specs.LineWork.{Line, LineWork}
-use Rattle.pol_record.specs.Texts.{batches_text, fault_text}
-use Rattle.pol_replay.specs.Meanings.{LineMeaning, at_fault, is_some_line, meaning_met, nothing, says}
-use Rattle.pol_guard.specs.Denials.{denial_text}
+use Rattle.pol_record.specs.Texts.{batches_text}
+use Rattle.pol_replay.specs.Meanings.{LineMeaning, is_some_line, meaning_met, nothing}
 use Rattle.pol_rights.specs.Form.{plant_policy_on}
 use Rattle.pol_rights.specs.Rules.{PlainPlantPolicy}
-use Rattle.pol_ledger.specs.Items.{asked}
-use Rattle.pol_ledger.specs.Work.{BegunLedger, ledger_after, ledger_answer}
-use Rattle.pol_ledger.specs.declared.items.LedgerAnswer.{LedgerAnswer}
-use Rattle.pol_ledger.specs.declared.items.LedgerAnswer.TheVariants.{Answered}
-use Rattle.pol_operate.specs.Lines.{OperatedLine, admitted, denied, faulty, operated_saying}
-use Rattle.pol_operate.specs.Texts.{advanced_by, history_in, kept_text, sealed_text, settings_told, told_text}
+use Rattle.pol_ledger.specs.Work.{BegunLedger}
+use Rattle.pol_operate.specs.Questions.{asks, told_to}
+use Rattle.pol_operate.specs.Saying.{ledger_met, text_met}
+use Rattle.pol_operate.specs.Texts.{history_in, kept_text, sealed_text}
 
 -- what the job knows between two lines: the policy, once a line said it, and the ledger
 pub record Known : Type 0 where
@@ -33,52 +29,36 @@ policy_said (Some text) = plant_policy_on text
 
 -- ---- the lines behind it
 
--- the output line of what a ledger answers, by the history that this leaves, and by the batch that was to go on
-abbrev pub answered_text : History → Option (List ℕ) → LedgerAnswer → List ℕ
-answered_text history batch (Answered answer) = told_text (settings_told history batch answer) answer
-answered_text history batch answer = []
+-- what a line says of an event; one that asks says nothing of any
+abbrev pub said_by : Line → LineMeaning PlainNamed
+said_by line = if asks line then nothing else meaning_met named_of line
 
--- the output line that comes of a line at a ledger
-abbrev pub text_after : Option BegunLedger → OperatedLine → List ℕ
-text_after ledger (faulty fault) = fault_text fault
-text_after ledger (denied rule) = denial_text rule
-text_after ledger (admitted one) =
-    answered_text (history_in (ledger_after ledger (asked one))) (advanced_by one.event)
-    (ledger_answer ledger (asked one))
-
--- the ledger after it
-abbrev pub ledger_with : Option BegunLedger → OperatedLine → Option BegunLedger
-ledger_with ledger (admitted one) = ledger_after ledger (asked one)
-ledger_with ledger line = ledger
-
--- the output line that what a line says brings; nothing, where it says nothing
-abbrev pub text_met : Option PlainPlantPolicy → Option BegunLedger → LineMeaning PlainNamed → List ℕ
-text_met policy ledger nothing = []
-text_met policy ledger (at_fault fault) = text_after ledger (faulty fault)
-text_met policy ledger (says said) = text_after ledger (operated_saying policy said)
-
--- the ledger that it leaves
-abbrev pub ledger_met : Option PlainPlantPolicy → Option BegunLedger → LineMeaning PlainNamed → Option BegunLedger
-ledger_met policy ledger nothing = ledger
-ledger_met policy ledger (at_fault fault) = ledger
-ledger_met policy ledger (says said) = ledger_with ledger (operated_saying policy said)
+-- what is replied to it: to a question what is told, and else what its saying brings
+abbrev pub operated_reply : PlainPlantPolicy → Option BegunLedger → Line → List ℕ
+operated_reply policy ledger line =
+    if asks line then told_to policy ledger line else text_met (Some policy) ledger (meaning_met named_of line)
 
 -- ---- each line, and the end
 
--- what is replied to a line: to the policy how much is kept
-abbrev pub reply_by : Option PlainPlantPolicy → Option BegunLedger → Line → List ℕ
-reply_by None ledger line = if is_some_line line then kept_text ledger else []
-reply_by (Some policy) ledger line = text_met (Some policy) ledger (meaning_met named_of line)
+-- what is replied to a line that is to say the policy: how much is kept, where it says one
+abbrev pub kept_reply : Option PlainPlantPolicy → Option BegunLedger → List ℕ
+kept_reply None ledger = []
+kept_reply (Some policy) ledger = kept_text ledger
 
--- the policy that is known after it
+-- the policy that is known after a line
 abbrev pub policy_by : Option PlainPlantPolicy → Line → Option PlainPlantPolicy
 policy_by None line = if is_some_line line then result_ok (policy_said line) else None
 policy_by (Some policy) line = Some policy
 
+-- what is replied to it
+abbrev pub reply_by : Option PlainPlantPolicy → Option BegunLedger → Line → List ℕ
+reply_by None ledger line = kept_reply (policy_by None line) ledger
+reply_by (Some policy) ledger line = operated_reply policy ledger line
+
 -- the ledger after it
 abbrev pub ledger_by : Option PlainPlantPolicy → Option BegunLedger → Line → Option BegunLedger
 ledger_by None ledger line = ledger
-ledger_by (Some policy) ledger line = ledger_met (Some policy) ledger (meaning_met named_of line)
+ledger_by (Some policy) ledger line = ledger_met (Some policy) ledger (said_by line)
 
 -- it is refused where it should say the policy, and has this fault
 abbrev pub RefusesBy : Option PlainPlantPolicy → Line → JsonFault → Type 0

@@ -11,7 +11,7 @@ ghost use Rattle.pol_ledger.specs.Ledgers.{ledger_state};
 ghost use Rattle.pol_ledger.specs.Work.{items_of, ledger_after, ledger_answer, ledger_work};
 ghost use Rattle.pol_operate.specs.Lines.{admitted, asked_by};
 ghost use Rattle.pol_operate.specs.Texts.{advanced_by, settings_told};
-ghost use Rattle.pol_operate.specs.Work.{answered_text, ledger_with, text_after};
+ghost use Rattle.pol_operate.specs.Saying.{answered_text, ledger_with, text_after};
 
 use crate::fault::DiskFailed;
 use crate::telling::put_told_line;
@@ -27,8 +27,8 @@ use pol_kept::{Kept, KeptRefusal};
 use pol_ledger::{Asked, Ledger, LedgerAnswer, LedgerItem};
 use std::alloc::{AllocError, Global};
 
-// The batch that an event has go on, if it is an advance.
-fn advanced_by(event: &Event) -> Option<Name>
+/// The batch that an event has go on, if it is an advance.
+pub fn advanced_by(event: &Event) -> Option<Name>
     ensures { result ≡ advanced_by (plain_event event.now) }
 {
     match event {
@@ -37,8 +37,8 @@ fn advanced_by(event: &Event) -> Option<Name>
     }
 }
 
-// The settings that an answer is told with: where a batch went on and started a step, those of that step.
-fn settings_told<'a>(plant: &'a Plant, batch: Option<Name>, answer: &Answer) -> &'a [Setting]
+/// The settings that an answer is told with: where a batch went on and started a step, those of that step.
+pub fn settings_told<'a>(plant: &'a Plant, batch: Option<Name>, answer: &Answer) -> &'a [Setting]
     ensures { result.now ≡ settings_told (plant_history plant.now) batch answer.now }
 {
     let (Some(batch), Answer::Did(LogEntry::Start { step, .. })) = (batch, answer) else {

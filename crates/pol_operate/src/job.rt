@@ -1,8 +1,10 @@
 //! The job on an operated plant.
 ghost use Rattle.std.specs.Prelude.{◌≡◌, ◌≢◌, ℕ, List, Some, false, IfErr, IfSome, OnOk};
+ghost use Rattle.std.specs.Io.KnownBytes.{Keeps};
 ghost use Rattle.kept_jobs.specs.Keeping.{IsKept, job_state};
 ghost use Rattle.kept_jobs.specs.Leaving.{KeepsAllLines, KeepsLines, StandsForAnswered, StandsForMore};
 ghost use Rattle.kept_jobs.specs.Telling.{telling};
+ghost use Rattle.mtp_json.specs.declared.fault.JsonFault.{JsonFault as json_fault};
 ghost use Rattle.pol_disk.specs.Disks.{LeavesOnly, ToldOn, told_through};
 ghost use Rattle.pol_io.specs.Causes.{Rose};
 ghost use Rattle.pol_io.specs.Pieces.{pieces};
@@ -39,6 +41,8 @@ fn operate_on<S: Source, K: Sink, D: Disk>(
     ensures disk_cause { IfErr result.0 (λ fault. fault ≡ OperateFault.Disk
         → Rose (D.faults store.disk) (D.faults result.1)) }
     ensures is_ledger { IfErr result.0 (λ fault. (place : ℕ) → fault ≢ OperateFault.NotALedger place) }
+    ensures unwritten { IfErr result.0 (λ fault. (reason : json_fault) → fault ≡ OperateFault.BadPolicy reason
+        → Keeps (K.held sink.old) (K.held sink.new)) }
     ensures on { ToldOn (D.bytes store.disk) (D.bytes result.1) }
     ensures moments { IsKept ledger_work known_items (telling D.bytes D.images D.moment D.left_since D.faults)
         (job_state (first_known (ledger_state store.chronicle)) store)
@@ -70,7 +74,7 @@ fn operate_on<S: Source, K: Sink, D: Disk>(
 /// ledger there where none was begun; so where the disk is no ledger nothing is read or written.
 ///
 /// How it ends is one row for each result. `BadPolicy` comes of the first line that isn't blank, or of an input without
-/// one. `Disk` comes only where the disk's count of faults rose in this call. `NotALedger` comes only where it did not
+/// one, and then nothing was written. `Disk` comes only where the disk's count of faults rose in this call. `NotALedger` comes only where it did not
 /// and the disk reads as bytes for which no list of at most 200,001 items stands; and where none at all does, it comes,
 /// unless the disk fails or there is no memory. The old items are those that the disk reads as, whatever a crash might
 /// leave of it. A crash at any moment of the call leaves what it might have left before, the old items, or these with
@@ -97,6 +101,8 @@ pub fn operate<S: Source, K: Sink, D: Disk>(
         → (D.faults result.1 ≡ D.faults disk) × IfSome (D.bytes result.1) (λ all. IsNoStore ledger_work all place)) }
     ensures unread { IfErr result.0 (λ fault. (place : ℕ) → fault ≡ OperateFault.NotALedger place
         → (source.new ≡ source.old) × (sink.new ≡ sink.old)) }
+    ensures unwritten { IfErr result.0 (λ fault. (reason : json_fault) → fault ≡ OperateFault.BadPolicy reason
+        → Keeps (K.held sink.old) (K.held sink.new)) }
     ensures unopened { (all now : List ℕ) → D.bytes disk ≡ Some all → D.bytes result.1 ≡ Some now
         → StandsForNoItems all → ¬ Rose (D.faults disk) (D.faults result.1) → IsUnopened result.0 }
 {

@@ -5,6 +5,7 @@ ghost use Rattle.pol_ledger.specs.Work.{ledger_work};
 ghost use Rattle.pol_operate.specs.Asked.{OperatedIsRun};
 ghost use Rattle.pol_operate.specs.Kept.{operate_job};
 ghost use Rattle.pol_operate.specs.Laws.{LinesAreGuarded};
+ghost use Rattle.pol_operate.specs.QuestionLaws.{QuestionsChangeNothing};
 
 use pol_disk::Disk;
 use pol_policy::verdicts_are_judged;
@@ -31,4 +32,11 @@ pub fn operated_are_guarded()
 #[tactic(auto, using(crate::proofs::Runs::operated_is_run))]
 pub fn operated_are_runs()
     ensures { OperatedIsRun }
+{}
+
+/// Leaving all questions out leaves out just their replies; and a question what an event would be answered is told the
+/// reply that its line would get now.
+#[tactic(auto, using(crate::proofs::Quiet::questions_are_quiet))]
+pub fn questions_change_nothing()
+    ensures { QuestionsChangeNothing }
 {}

@@ -1,16 +1,21 @@
 //! A replay on a ledger that is kept, under the policy of its plant.
-ghost use Rattle.std.specs.Prelude.{◌≡◌, ◌++◌, None, IfOk, IfErr, Ok, Err, OnOk};
+ghost use Rattle.std.specs.Prelude.{◌≡◌, ◌++◌, None, Some, IfOk, IfErr, Ok, Err, OnOk, true};
 ghost use Rattle.std.specs.Option.{option_map};
+ghost use Rattle.kept_jobs.specs.Keeping.{Admits};
 ghost use Rattle.mtp_json.specs.declared.fault.JsonFault.{JsonFault as json_fault};
 ghost use Rattle.pol_jobs.specs.Faults.{FailedSo, RefusedFor};
 ghost use Rattle.pol_jobs.specs.InputLines.{plain_line};
 ghost use Rattle.pol_ledger.specs.Ledgers.{ledger_state};
+ghost use Rattle.pol_ledger.specs.Work.{items_of, ledger_work};
 ghost use Rattle.pol_rights.specs.PlainPlantPolicy.{plain_plant_policy};
-ghost use Rattle.pol_operate.specs.Work.{RefusesBy, policy_by, policy_said, reply_by};
+ghost use Rattle.pol_rights.specs.declared.plant_policy.PlantPolicy.{PlantPolicy as plant_policy};
+ghost use Rattle.pol_operate.specs.Questions.{told_by};
+ghost use Rattle.pol_operate.specs.Work.{RefusesBy, ledger_by, policy_by, policy_said, reply_by};
 
 use crate::asking::ask;
 use crate::closing::close;
 use crate::fault::DiskFailed;
+use crate::questions::{answer_question, asks};
 use crate::telling::put_kept_line;
 use crate::verdicts::verdict_under;
 use event_json::LineFault;
@@ -29,8 +34,8 @@ use pol_rights::{PlantPolicy, read_plant_policy};
 use std::alloc::Global;
 
 /// The job on an operated plant: its first line that isn't blank is the policy, and each other line is at fault,
-/// denied, or asked of the ledger. What is asked is kept with what else is at hand before anything of it is answered. It
-/// closes with the line of each batch and the end line. Where the disk fails it stops, and its store is closed.
+/// denied, or asked of the ledger. What is asked is kept with what else is at hand before anything of it is answered.
+/// It closes with the line of each batch and the end line. Where the disk fails it stops, and its store is closed.
 pub struct Operating<D: Disk> {
     /// The memory that it takes.
     pub alloc: Global,
@@ -83,6 +88,51 @@ impl<D: Disk> Operating<D> {
         put_kept_line(self.alloc, out, self.store.chronicle())?;
         self.policy = Some(policy);
         Ok(())
+    }
+
+    // Puts what is told to a line that asks behind what a buffer holds; nothing before a policy is known.
+    fn tell(
+        &self,
+        line: InputLine<'_>,
+        out: &mut Vec<u8>,
+    ) -> Result<(), Stop<JsonFault, DiskFailed>>
+        ensures line { OnOk result (out.new.items ≡ out.old.items
+            ++ told_by (option_map plain_plant_policy self.now.policy) (ledger_state self.now.store.chronicle)
+            (plain_line line.entry)) }
+        ensures failed { IfErr result (FailedSo (self.now.store.closed ≡ true)) }
+        ensures unrefused { IfErr result (RefusedFor (λ _. ⊥)) }
+    {
+        if let Some(policy) = &self.policy {
+            answer_question(self.alloc, out, policy, self.store.chronicle(), line)?;
+        }
+        Ok(())
+    }
+
+    // Answers a line behind the policy: what it asks, or by what it says.
+    #[inline(always)]
+    fn answer(
+        &mut self,
+        line: InputLine<'_>,
+        out: &mut Vec<u8>,
+    ) -> Result<(), Stop<JsonFault, DiskFailed>>
+        requires known { (one : plant_policy) × (self.old.policy ≡ Some one) }
+        ensures line { OnOk result (out.new.items ≡ out.old.items
+            ++ reply_by (option_map plain_plant_policy self.old.policy) (ledger_state self.old.store.chronicle)
+            (plain_line line.entry)) }
+        ensures policy { self.new.policy ≡ self.old.policy }
+        ensures ledger { OnOk result (ledger_state self.new.store.chronicle
+            ≡ ledger_by (option_map plain_plant_policy self.old.policy) (ledger_state self.old.store.chronicle)
+            (plain_line line.entry)) }
+        ensures admits { Admits ledger_work ledger_state self.old.store self.new.store
+            (items_of (ledger_by (option_map plain_plant_policy self.old.policy)
+            (ledger_state self.old.store.chronicle) (plain_line line.entry))) }
+        ensures failed { IfErr result (FailedSo (self.new.store.closed ≡ true)) }
+        ensures unrefused { IfErr result (RefusedFor (λ _. ⊥)) }
+    {
+        if asks(line) {
+            return self.tell(line, out);
+        }
+        answer_line::<NamedLines, _>(self.alloc, line, self, out)
     }
 
     /// The disk, once the job is done with.
@@ -189,7 +239,7 @@ impl<D: Disk> LineJob for Operating<D> {
         out: &mut Vec<u8>,
     ) -> Result<(), Stop<JsonFault, DiskFailed>> {
         match self.policy {
-            Some(_) => answer_line::<NamedLines, _>(self.alloc, line, self, out),
+            Some(_) => self.answer(line, out),
             None => self.begin(line, out),
         }
     }

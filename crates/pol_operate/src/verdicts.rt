@@ -11,8 +11,8 @@ use pol_guard::verdict_on as verdict_on_command;
 use pol_policy::Verdict;
 use pol_rights::PlantPolicy;
 
-// The verdict of a policy; None where it is asked nothing.
-fn verdict_on(policy: &PlantPolicy, said: &Named) -> Option<Verdict>
+/// The verdict of a policy; None where it is asked nothing.
+pub fn verdict_on(policy: &PlantPolicy, said: &Named) -> Option<Verdict>
     ensures { result ≡ verdict_on (plain_plant_policy policy.now) (plain_named said.now) }
 {
     match verdict_on_command(&policy.commands, &said.event, said.by) {

@@ -61,8 +61,8 @@ pub fn is_some_line(line: InputLine<'_>) -> bool
     }
 }
 
-// Whether a line says first of all that it is a start. No start is read quickly, for its binds. Three bytes tell it from
-// almost every other line.
+// Whether a line says first of all that it is a start. No start is read quickly, for its binds. Three bytes tell it
+// from almost every other line.
 #[inline(always)]
 fn is_start(line: &[u8]) -> bool {
     matches!(line, [_, _, _, _, _, _, _, b's', b't', b'a', ..])

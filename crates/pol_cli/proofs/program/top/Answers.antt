@@ -2,7 +2,7 @@ use Rattle.pol_arguments.specs.Words.{texts_of}
 use Rattle.pol_arguments.specs.declared.Task.TheVariants.{Export, Keep, Live, Operate, Serial}
 use Rattle.std.proofs.Common.{◌≡◌, inl, inr, refl}
 use Rattle.pol_jobs.specs.Ends.{edge}
-use Rattle.pol_keep.specs.Keeping.{telling}
+use Rattle.kept_jobs.specs.Telling.{telling}
 use Rattle.pol_cli.specs.Worked.{disks, edges}
 use Rattle.pol_cli.proofs.Asked.{by_kept, by_live, by_no_memory, by_none, by_operated, by_serial, ends_as}
 use Rattle.pol_cli.proofs.Unread.{unbegun_ends}
@@ -109,13 +109,15 @@ returns-clause-ends g c =
     (edge (g.K.Sink.held c.args.sink.now) (g.K.Sink.faults c.args.sink.now))
     (c.args.source.now ≡ c.args.source.now) (c.args.sink.now ≡ c.args.sink.now) refl refl
     (telling d.bytes d.images d.moment d.left_since d.faults) c.args.disk (g.met.D.Disk.only_now c.args.disk)
-    (telling l.bytes l.images l.moment l.left_since l.faults) c.args.ledger (g.met.L.Disk.only_now c.args.ledger) (record {
+    (telling l.bytes l.images l.moment l.left_since l.faults) c.args.ledger (g.met.L.Disk.only_now c.args.ledger)
+    (record {
       audits = c.laws_hold.ensures.audits;
       guards = c.laws_hold.ensures.guards;
       migrations = c.laws_hold.ensures.migrations;
       bindings = c.laws_hold.ensures.bindings;
       operated = c.laws_hold.ensures.operated;
       operations = c.laws_hold.ensures.operations;
+      questions = c.laws_hold.ensures.questions;
     }) task
 
 pub returns-clause-words : goal.returns-clause-words

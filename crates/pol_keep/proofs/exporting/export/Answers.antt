@@ -1,14 +1,16 @@
 use Rattle.std.proofs.Common.{◌≡◌, List, Some, arith, subst}
+use Rattle.kept_jobs.specs.Telling.{telling}
+use Rattle.kept_jobs.proofs.Ended.{left_plain, reads_one}
 use Rattle.pol_core.specs.Plants.{plant_history}
 use Rattle.pol_disk.proofs.Telling.{on_same, through_known}
 use Rattle.pol_events.specs.Events.{PlainEvent}
 use Rattle.pol_history.specs.Runs.{events_of}
+use Rattle.pol_store.specs.Lawful.{length-events, plants_are_lawful}
 use Rattle.pol_store.specs.Stands.{StandsFor}
+use Rattle.pol_store.specs.Work.{plant_work}
 use Rattle.pol_store.proofs.Histories.{legal_few}
-use Rattle.pol_store.specs.Lawful.{length-events}
 use Rattle.pol_keep.specs.Exported.{exported_output}
-use Rattle.pol_keep.specs.Keeping.{telling}
-use Rattle.pol_keep.proofs.Ended.{keep_ends, keeps, on_ok_holds, opened_kept, opening_left, unopened_is}
+use Rattle.pol_keep.proofs.Ended.{keep_ends, keeps, on_ok_holds, unopened_is}
 use Rattle.pol_keep.proofs.exporting.export.Goals as goal
 
 pub returns-in-Ok-clause-ends : goal.returns-in-Ok-clause-ends
@@ -25,9 +27,9 @@ returns-in-Ok-clause-ends g c =
 pub returns-in-Ok-clause-holds : goal.returns-in-Ok-clause-holds
 returns-in-Ok-clause-holds g c =
     let d = g.D.Disk in
-    rw c.export_from.ensures.disk (λ old reads tells. opening_left
-    (telling d.bytes d.images d.moment d.left_since d.faults) c.args.disk old reads c.in-Ok.store.disk
-    (c.in-Ok.ensures.left reads.bytes tells.0 reads.told tells.1))
+    rw c.export_from.ensures.disk (λ old reads tells. left_plain plant_work
+    (telling d.bytes d.images d.moment d.left_since d.faults) plants_are_lawful c.args.disk c.in-Ok.store.disk old
+    reads _ (λ image one. one) (c.in-Ok.ensures.left reads.bytes tells.0 reads.told tells.1))
 
 pub returns-in-Ok-clause-holds_all : goal.returns-in-Ok-clause-holds_all
 returns-in-Ok-clause-holds_all g c =
@@ -35,9 +37,10 @@ returns-in-Ok-clause-holds_all g c =
     let did = c.in-Ok.ensures in
     on_ok_holds c.export_from.result.0
     (rw c.export_from.ensures.disk (λ old reads tells.
-    let opened = opened_kept (telling d.bytes d.images d.moment d.left_since d.faults) c.args.disk old reads
-    c.in-Ok.store did.opened tells (did.stood reads.bytes tells.0 reads.told tells.1) (did.stand tells.0 tells.1) in
-    (λ image now. subst (λ (events : List PlainEvent). StandsFor events image) opened.1
+    let same = reads_one plant_work (telling d.bytes d.images d.moment d.left_since d.faults) plants_are_lawful
+    c.args.disk old (events_of (plant_history c.in-Ok.store.plant)) reads
+    (did.stood reads.bytes tells.0 reads.told tells.1) in
+    (λ image now. subst (λ (events : List PlainEvent). StandsFor events image) same
     (did.stand tells.0 tells.1 image now))))
 
 pub returns-in-Ok-clause-unopened : goal.returns-in-Ok-clause-unopened
@@ -53,8 +56,9 @@ returns-in-Ok-clause-unopened g c = λ all now told later none quiet.
 pub returns-in-Err-clause-holds : goal.returns-in-Err-clause-holds
 returns-in-Err-clause-holds g c =
     let d = g.D.Disk in
-    λ old reads tells. opening_left (telling d.bytes d.images d.moment d.left_since d.faults) c.args.disk old reads
-    c.in-Err.disk (c.in-Err.ensures.left_err reads.bytes tells.0 reads.told tells.1)
+    λ old reads tells. left_plain plant_work (telling d.bytes d.images d.moment d.left_since d.faults)
+    plants_are_lawful c.args.disk c.in-Err.disk old reads _ (λ image one. one)
+    (c.in-Err.ensures.left_err reads.bytes tells.0 reads.told tells.1)
 
 pub returns-in-Err-clause-unopened : goal.returns-in-Err-clause-unopened
 returns-in-Err-clause-unopened g c = λ all now told later none well.

@@ -1,15 +1,17 @@
-use Rattle.std.proofs.Common.{arith}
+use Rattle.std.proofs.Common.{ap, arith}
 use Rattle.std.proofs.lemmas.Result.{on_ok_weaker}
+use Rattle.kept_jobs.specs.Telling.{telling}
+use Rattle.kept_jobs.proofs.Ended.{opened_kept, reads_one, run_keeps, run_keeps_all, unopened_keeps}
 use Rattle.pol_core.specs.Plants.{plant_history}
 use Rattle.pol_disk.proofs.Telling.{through_known, was_told}
 use Rattle.pol_history.specs.Runs.{events_of}
+use Rattle.pol_store.specs.Lawful.{length-events, plants_are_lawful}
 use Rattle.pol_store.specs.Stands.{StandsFor}
+use Rattle.pol_store.specs.Work.{plant_work}
 use Rattle.pol_store.proofs.Histories.{legal_few}
-use Rattle.pol_store.specs.Lawful.{length-events}
-use Rattle.pol_keep.specs.Keeping.{telling}
-use Rattle.pol_keep.specs.Kept.{kept_output}
-use Rattle.pol_keep.proofs.Ended.{going_all, going_kept, going_moments, keep_ends, keeps, of_input, opened_kept}
-use Rattle.pol_keep.proofs.Ended.{opening_more, unopened_is, unopened_kept}
+use Rattle.pol_keep.specs.Keeping.{kept_plant, plant_job, plant_state}
+use Rattle.pol_keep.specs.Kept.{answers_with, events_with, kept_output}
+use Rattle.pol_keep.proofs.Ended.{keep_ends, keeps, left_begun, unopened_is}
 use Rattle.pol_keep.proofs.job.keep.Goals as goal
 
 pub returns-in-Ok-clause-ends : goal.returns-in-Ok-clause-ends
@@ -27,36 +29,42 @@ returns-in-Ok-clause-keeps g c =
     let d = g.D.Disk in
     let disk = telling d.bytes d.images d.moment d.left_since d.faults in
     let did = c.in-Ok.ensures in
-    let on = c.keep_on.ensures.on in
+    let store = c.in-Ok.store in
+    let events = events_of (plant_history store.plant) in
+    run_keeps plant_work disk plant_job events_of c.args.disk _ (plant_state store) _ (events_with events)
+    (answers_with events) c.keep_on.ensures.on
+    (λ old reads tells.
+    let same = reads_one plant_work disk plants_are_lawful c.args.disk old events reads
+    (did.stood reads.bytes tells.0 reads.told tells.1) in
     record {
-      moments = λ old reads tells.
-          let mid = was_told (d.bytes c.in-Ok.store.disk) (d.bytes c.keep_on.result.1) on tells.0 tells.1 in
-          let opened = opened_kept disk c.args.disk old reads c.in-Ok.store did.opened mid
-          (did.stood reads.bytes mid.0 reads.told mid.1) (did.stand mid.0 mid.1) in
-          going_moments disk c.args.disk old reads c.in-Ok.store.disk (did.left reads.bytes mid.0 reads.told mid.1)
-          c.keep_on.result.1 (events_of (plant_history c.in-Ok.store.plant)) opened.1 _
-          (c.keep_on.ensures.moments opened.0);
-      kept = λ old reads tells.
-          let mid = was_told (d.bytes c.in-Ok.store.disk) (d.bytes c.keep_on.result.1) on tells.0 tells.1 in
-          let opened = opened_kept disk c.args.disk old reads c.in-Ok.store did.opened mid
-          (did.stood reads.bytes mid.0 reads.told mid.1) (did.stand mid.0 mid.1) in
-          going_kept disk c.args.disk old reads c.in-Ok.store.disk (did.left reads.bytes mid.0 reads.told mid.1)
-          c.keep_on.result.1 (events_of (plant_history c.in-Ok.store.plant)) opened.1 _ _ _
-          (c.keep_on.ensures.kept opened.0);
-    }
+      kept = opened_kept plant_work disk events_of (plant_history store.plant) (kept_plant store) did.opened tells
+          (did.stand tells.0 tells.1);
+      items_are = ap events_with same;
+      answers_are = ap answers_with same;
+    }) _ _
+    (λ old reads tells. left_begun disk c.args.disk old reads store.disk
+    (did.left reads.bytes tells.0 reads.told tells.1))
+    c.keep_on.ensures.moments c.keep_on.ensures.kept
 
 pub returns-in-Ok-clause-keeps_all : goal.returns-in-Ok-clause-keeps_all
 returns-in-Ok-clause-keeps_all g c =
     let d = g.D.Disk in
     let disk = telling d.bytes d.images d.moment d.left_since d.faults in
     let did = c.in-Ok.ensures in
+    let store = c.in-Ok.store in
+    let events = events_of (plant_history store.plant) in
     on_ok_weaker c.keep_on.result.0
-    (λ all old reads tells.
-    let mid = was_told (d.bytes c.in-Ok.store.disk) (d.bytes c.keep_on.result.1) c.keep_on.ensures.on tells.0 tells.1 in
-    let opened = opened_kept disk c.args.disk old reads c.in-Ok.store did.opened mid
-    (did.stood reads.bytes mid.0 reads.told mid.1) (did.stand mid.0 mid.1) in
-    going_all disk c.args.disk old reads c.in-Ok.store.disk (did.left reads.bytes mid.0 reads.told mid.1)
-    c.keep_on.result.1 (events_of (plant_history c.in-Ok.store.plant)) opened.1 _ (all opened.0))
+    (run_keeps_all plant_work disk plant_job events_of c.args.disk _ (plant_state store) _ (events_with events)
+    (answers_with events) c.keep_on.ensures.on
+    (λ old reads tells.
+    let same = reads_one plant_work disk plants_are_lawful c.args.disk old events reads
+    (did.stood reads.bytes tells.0 reads.told tells.1) in
+    record {
+      kept = opened_kept plant_work disk events_of (plant_history store.plant) (kept_plant store) did.opened tells
+          (did.stand tells.0 tells.1);
+      items_are = ap events_with same;
+      answers_are = ap answers_with same;
+    }))
     c.keep_on.ensures.kept_all
 
 pub returns-in-Ok-clause-unopened : goal.returns-in-Ok-clause-unopened
@@ -72,15 +80,9 @@ pub returns-in-Err-clause-keeps : goal.returns-in-Err-clause-keeps
 returns-in-Err-clause-keeps g c =
     let d = g.D.Disk in
     let disk = telling d.bytes d.images d.moment d.left_since d.faults in
-    let left = c.in-Err.ensures.left_err in
-    record {
-      moments = λ old reads tells. of_input _ _
-          (opening_more disk c.args.disk old reads c.in-Err.disk (left reads.bytes tells.0 reads.told tells.1));
-      kept = λ old reads tells. of_input (g.S.Source.left c.args.source.now) _
-          (λ input image now. unopened_kept disk c.args.disk old reads c.in-Err.disk
-          (left reads.bytes tells.0 reads.told tells.1)
-          g.met.D.Disk.counts_now input (g.K.Sink.held c.args.sink.now) image now);
-    }
+    unopened_keeps plant_work disk plant_job c.args.disk c.in-Err.disk
+    (λ old reads tells. left_begun disk c.args.disk old reads c.in-Err.disk
+    (c.in-Err.ensures.left_err reads.bytes tells.0 reads.told tells.1)) _ _ g.met.D.Disk.counts_now
 
 pub returns-in-Err-clause-unopened : goal.returns-in-Err-clause-unopened
 returns-in-Err-clause-unopened g c = λ all now told later none well.

@@ -10,6 +10,7 @@ use Rattle.pol_operate.specs.Kept.{answers_behind, first_known, items_behind, op
 use Rattle.pol_operate.specs.Operated.{known_items}
 use Rattle.pol_operate.proofs.Ended.{operate_ends, operates, unopened_is}
 use Rattle.pol_operate.proofs.Found.{left_begun, opened_of, was_found}
+use Rattle.pol_operate.proofs.Unsaid.{not_refused}
 use Rattle.pol_operate.proofs.job.operate.Goals as goal
 
 pub returns-in-Ok-clause-ends : goal.returns-in-Ok-clause-ends
@@ -81,3 +82,7 @@ returns-in-Err-clause-keeps g c =
 pub returns-in-Err-clause-unopened : goal.returns-in-Err-clause-unopened
 returns-in-Err-clause-unopened g c = λ all now told later none well.
     unopened_is c.in-Err.fault c.unopened.result c.unopened.ensures (λ is. well (c.in-Err.ensures.disk_cause is))
+
+pub returns-in-Err-clause-unwritten : goal.returns-in-Err-clause-unwritten
+returns-in-Err-clause-unwritten g c = λ reason is.
+    not_refused c.in-Err.fault c.unopened.result _ c.unopened.ensures reason is

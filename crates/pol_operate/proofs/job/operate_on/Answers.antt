@@ -9,6 +9,7 @@ use Rattle.pol_operate.specs.Kept.{answers_behind, first_known, items_behind}
 use Rattle.pol_operate.specs.Operated.{known_items}
 use Rattle.pol_operate.specs.Work.{operate_work}
 use Rattle.pol_operate.proofs.Ended.{when_disk, when_done}
+use Rattle.pol_operate.proofs.Unsaid.{unwritten}
 use Rattle.pol_operate.proofs.job.operate_on.Goals as goal
 
 pub returns-clause-disk_cause : goal.returns-clause-disk_cause
@@ -17,6 +18,11 @@ returns-clause-disk_cause g c =
     c.work-done.ensures.did_all c.work-done.ensures.did_some in
     rw c.into_disk.ensures (when_disk _ _ (did.did.cause c.requires.opened) c.ended.result c.work-done.result
     c.ended.ensures.job c.work-done.ensures.failed)
+
+pub returns-clause-unwritten : goal.returns-clause-unwritten
+returns-clause-unwritten g c =
+    unwritten (ledger_state c.args.store.chronicle) _ _ c.ended.result c.work-done.result c.ended.ensures.job
+    c.work-done.ensures.refused
 
 pub returns-clause-on : goal.returns-clause-on
 returns-clause-on g c =

@@ -1,0 +1,6 @@
+pub mod Lists
+pub mod Entries
+pub mod May
+pub mod Modules
+pub mod Batches
+pub mod Overview
