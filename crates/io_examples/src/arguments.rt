@@ -4,7 +4,7 @@ use pol_arguments::{LiveTask, SerialTask, Task, WordFault, read_words};
 use std::test::Fail;
 
 /// Words that ask for a task.
-const TASKS: [(&str, Task); 15] = [
+const TASKS: [(&str, Task); 16] = [
     ("pol --job replay", Task::Serial(SerialTask::Replay)),
     ("pol --job=replay", Task::Serial(SerialTask::Replay)),
     ("pol --job=demo --seed 0", Task::Serial(SerialTask::Demo(0))),
@@ -28,6 +28,7 @@ const TASKS: [(&str, Task); 15] = [
     ("pol --job migrate", Task::Serial(SerialTask::Migrate)),
     ("pol --job keep", Task::Keep),
     ("pol --job export", Task::Export),
+    ("pol --job compact", Task::Compact),
     ("pol --job operate", Task::Operate),
 ];
 

@@ -11,7 +11,7 @@ use Rattle.pol_arguments.specs.declared.JobForm.TheVariants.{Alone, Seeded, Watc
 use Rattle.pol_arguments.specs.declared.SerialTask.TheVariants.{Replay, Demo, Audit, Find, Guard, Migrate}
 use Rattle.pol_arguments.specs.declared.TheConstants.{MOST_WATCHERS}
 use Rattle.pol_arguments.specs.declared.Task.{Task}
-use Rattle.pol_arguments.specs.declared.Task.TheVariants.{Serial, Live, Keep, Export, Operate}
+use Rattle.pol_arguments.specs.declared.Task.TheVariants.{Serial, Live, Keep, Export, Compact, Operate}
 
 -- an option that takes one value
 abbrev pub option_rule : Text → Rule
@@ -42,6 +42,7 @@ job_words =
     ∷ (codes "plant", Watched)
     ∷ (codes "keep", Alone Keep)
     ∷ (codes "export", Alone Export)
+    ∷ (codes "compact", Alone Compact)
     ∷ (codes "operate", Alone Operate)
     ∷ []
 

@@ -50,6 +50,8 @@ pub enum Task {
     Keep,
     /// `--job export`: write the events that the disk keeps as the lines of a journal.
     Export,
+    /// `--job compact`: write those of these events that stay where the history is compacted.
+    Compact,
     /// `--job operate`: answer each line of a journal, under the policy in front of it, on a plant that a ledger keeps.
     Operate,
 }
@@ -163,6 +165,7 @@ fn form_of(word: Option<&str>) -> Option<JobForm>
         "plant" => Some(JobForm::Watched),
         "keep" => Some(JobForm::Alone(Task::Keep)),
         "export" => Some(JobForm::Alone(Task::Export)),
+        "compact" => Some(JobForm::Alone(Task::Compact)),
         "operate" => Some(JobForm::Alone(Task::Operate)),
         _ => None,
     }

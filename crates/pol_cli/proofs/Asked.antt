@@ -14,21 +14,27 @@ use Rattle.pol_jobs.specs.declared.fault.JobFault.{JobFault}
 use Rattle.pol_jobs.specs.declared.fault.JobFault.TheVariants as job
 use Rattle.pol_keep.specs.declared.fault.KeepFault.{KeepFault}
 use Rattle.pol_keep.specs.declared.fault.KeepFault.TheVariants as kept
+use Rattle.pol_extract.specs.declared.fault.ExtractFault.{ExtractFault}
+use Rattle.pol_extract.specs.declared.fault.ExtractFault.TheVariants as extracted
+use Rattle.pol_journal.specs.declared.extent.Extent.{Extent}
 use Rattle.pol_operate.specs.declared.fault.OperateFault.{OperateFault}
 use Rattle.pol_operate.specs.declared.fault.OperateFault.TheVariants as operated
-use Rattle.pol_cli.specs.Statuses.{no_refusal, refused_as, status_of, status_of_kept, status_of_operated}
-use Rattle.pol_cli.specs.Tasks.{AskForDiskOf, AskForKept, GoesByWords, JobEnds, PlantEnds, SerialEnds, TaskEnds}
-use Rattle.pol_cli.specs.Worked.{Disks, Edges}
+use Rattle.pol_cli.specs.Statuses.{no_refusal, refused_as, status_of, status_of_extracted, status_of_kept}
+use Rattle.pol_cli.specs.Statuses.{status_of_operated}
+use Rattle.pol_cli.specs.Tasks.{AskForDiskOf, AskForJournal, AskForKept, GoesByWords, JobEnds, PlantEnds, SerialEnds}
+use Rattle.pol_cli.specs.Tasks.{TaskEnds, WritesJournal}
+use Rattle.pol_cli.specs.Worked.{Disks, Edges, File, a_file, no_file}
 use Rattle.pol_cli.specs.declared.status.Wanted.TheVariants.{Site, Policy}
 use Rattle.pol_cli.specs.declared.status.Status.{Status}
 use Rattle.pol_cli.specs.declared.status.Status.TheVariants as status
 
 -- what holds of a task that the words mean holds of each that they mean
 pub ends_as : {D L : Type 0} (words : List (List ℕ)) (one : Task) (source sink : Edges) (disk : Disks D)
-    (ledger : Disks L) (status : Status) → Means words one → TaskEnds one source sink disk ledger status →
-    (task : Task) → Means words task → TaskEnds task source sink disk ledger status
-ends_as words one source sink disk ledger status means ends task other =
-    subst (λ task. TaskEnds task source sink disk ledger status) (one_task words one task means other) ends
+    (ledger : Disks L) (file : File) (status : Status) → Means words one →
+    TaskEnds one source sink disk ledger file status →
+    (task : Task) → Means words task → TaskEnds task source sink disk ledger file status
+ends_as words one source sink disk ledger file status means ends task other =
+    subst (λ task. TaskEnds task source sink disk ledger file status) (one_task words one task means other) ends
 
 -- ---- statuses
 
@@ -132,8 +138,25 @@ of_operated words means (Err operated.Write) = tt
 of_operated words means (Err operated.Memory) = tt
 of_operated words means (Err operated.TooMuch) = tt
 of_operated words means (Err operated.Disk) = inr means
-of_operated words means (Err (operated.NotALedger place)) = means
+of_operated words means (Err (operated.NotALedger place)) = inl means
 of_operated words means (Err (operated.BadPolicy fault)) = tt
+
+-- nor does one that reads its file
+extracted_not_bad : (result : Result (Unit {0}) ExtractFault) → status_of_extracted result ≡ status.BadWords → ⊥
+extracted_not_bad (Ok done) is = cc
+extracted_not_bad (Err extracted.Read) is = cc
+extracted_not_bad (Err extracted.Write) is = cc
+extracted_not_bad (Err extracted.Memory) is = cc
+extracted_not_bad (Err (extracted.NotALedger place)) is = cc
+
+-- where it tells of that file, a journal is asked for
+of_extracted : (words : List (List ℕ)) → AskForJournal words → (result : Result (Unit {0}) ExtractFault) →
+    AskForDiskOf words (status_of_extracted result)
+of_extracted words asks (Ok done) = tt
+of_extracted words asks (Err extracted.Read) = inl (inr asks)
+of_extracted words asks (Err extracted.Write) = tt
+of_extracted words asks (Err extracted.Memory) = tt
+of_extracted words asks (Err (extracted.NotALedger place)) = inr asks
 
 -- ---- what the words have to do with the status
 
@@ -167,6 +190,15 @@ module _ (words : List (List ℕ)) (source sink : Edges) (now : Status) where
   by_kept task means asks result told =
       meant_by task means (λ bad. no_bad_words result (sym told ∙ bad))
       (subst (AskForDiskOf words) (sym told) (of_kept words asks result))
+
+  -- one that writes a journal
+  pub by_journal : {D : Type 0} (task : Task) → Means words task → AskForJournal words → (extent : Extent)
+      (disk : Disks D) (file : File) → WritesJournal extent sink disk file now → GoesByWords words source sink now
+  by_journal task means asks extent disk no_file writes =
+      by_kept task means (inr asks) writes.job.result writes.job.told
+  by_journal task means asks extent disk (a_file file) writes =
+      meant_by task means (λ bad. extracted_not_bad writes.result (sym writes.told ∙ bad))
+      (subst (AskForDiskOf words) (sym writes.told) (of_extracted words asks writes.result))
 
   -- the one on the operated plant
   pub by_operated : Means words Operate → (result : Result (Unit {0}) OperateFault) →

@@ -1,13 +1,13 @@
 -- Where there was no memory to read the words, each task ended as one that had none: nothing was begun.
-use Rattle.std.proofs.Common.{ℕ, ◌≡◌, ◌⊎◌, List, Bool, false, true, refl, inl, inr}
-use Rattle.std.specs.Prelude.{Err}
+use Rattle.std.proofs.Common.{ℕ, ◌≡◌, ◌⊎◌, List, Bool, false, true, ap, refl, sym, inl, inr}
+use Rattle.std.specs.Prelude.{Err, Option, Some, None}
 use Rattle.std.specs.declared.convert.Infallible.{Infallible}
 use Rattle.mtp_json.specs.declared.fault.FaultKind.{FaultKind}
 use Rattle.mtp_json.specs.declared.path.PathPart.{PathPart}
 use Rattle.pol_arguments.specs.declared.SerialTask.{SerialTask}
 use Rattle.pol_arguments.specs.declared.SerialTask.TheVariants.{Replay, Demo, Audit, Find, Guard, Migrate}
 use Rattle.pol_arguments.specs.declared.Task.{Task}
-use Rattle.pol_arguments.specs.declared.Task.TheVariants.{Serial, Live, Keep, Export, Operate}
+use Rattle.pol_arguments.specs.declared.Task.TheVariants.{Serial, Live, Keep, Export, Compact, Operate}
 use Rattle.pol_disk.proofs.Moments.{started}
 use Rattle.pol_events.specs.Events.{PlainEvent}
 use Rattle.pol_io.specs.Edge.{Edge}
@@ -22,6 +22,9 @@ use Rattle.pol_guard.specs.Laws.{GuardTheorem}
 use Rattle.kept_jobs.specs.Leaving.{IsEarlier, KeptJob, StandsForMore}
 use Rattle.kept_jobs.specs.Telling.{Telling}
 use Rattle.kept_jobs.proofs.Running.{of_input}
+use Rattle.pol_extract.specs.declared.fault.ExtractFault.TheVariants as extracted
+use Rattle.pol_journal.specs.declared.extent.Extent.{Extent}
+use Rattle.pol_journal.specs.declared.extent.Extent.TheVariants.{Whole, Compacted}
 use Rattle.pol_keep.specs.Exported.{exported_output, no_input}
 use Rattle.pol_keep.specs.Keeping.{plant_job}
 use Rattle.pol_keep.specs.Kept.{kept_output}
@@ -42,9 +45,9 @@ use Rattle.pol_cli.specs.Audits.{AuditTheorem, audited}
 use Rattle.pol_cli.specs.Keeping.{KeepsInput}
 use Rattle.pol_cli.specs.SiteRuns.{planted}
 use Rattle.pol_cli.specs.Statuses.{no_refusal, refused_as}
-use Rattle.pol_cli.specs.Tasks.{ExportEnds, JobEnds, KeepingEnds, KeptEnds, OperatingEnds, SerialEnds, TaskEnds}
-use Rattle.pol_cli.specs.Tasks.{demonstrated}
-use Rattle.pol_cli.specs.Worked.{Disks, Edges}
+use Rattle.pol_cli.specs.Tasks.{ExportEnds, JobEnds, JournalEnds, KeepingEnds, KeptEnds, OperatingEnds, SerialEnds}
+use Rattle.pol_cli.specs.Tasks.{TaskEnds, WritesJournal, demonstrated}
+use Rattle.pol_cli.specs.Worked.{Disks, Edges, File, a_file, file_of, no_file}
 use Rattle.pol_cli.specs.declared.status.Wanted.TheVariants.{Site, Policy}
 use Rattle.pol_cli.specs.declared.status.Status.{Status}
 use Rattle.pol_cli.specs.declared.status.Status.TheVariants as status
@@ -67,6 +70,17 @@ rested edge Same = record { before = edge; after = edge; Untouched = Same }
 -- a disk that was
 abbrev pub rested_disk : {D : Type 0} → Telling D → D → Disks D
 rested_disk tells disk = record { tells = tells; before = disk; after = disk }
+
+-- a file that was
+abbrev pub IsRested : File → Type 0
+IsRested no_file = Unit {0}
+IsRested (a_file file) = file.before ≡ file.after
+
+-- one that wasn't looked at was
+pub file_rested : {F : Type 0} (bytes : F → Option (List ℕ)) (faults : F → ℕ) (file : Option F) →
+    IsRested (file_of bytes faults file file)
+file_rested bytes faults None = tt
+file_rested bytes faults (Some file) = refl
 
 -- with no memory all isn't good
 not_good : status.OutOfMemory ≡ status.Good → ⊥
@@ -161,18 +175,35 @@ module _ (source sink : Edge) (SameSource SameSink : Type 0) (source_same : Same
       keeps = keeps_unbegun plant_work plant_job;
     }
 
-    -- an export
-    export_unbegun : ExportEnds (rested source SameSource) (rested sink SameSink) (rested_disk tells disk)
-        status.OutOfMemory
-    export_unbegun = record {
-      job = kept_unbegun exported_output no_input (Unit {0}) tt;
+    -- the journal of a kept plant
+    export_unbegun : (extent : Extent) →
+        ExportEnds extent (rested sink SameSink) (rested_disk tells disk) status.OutOfMemory
+    export_unbegun extent = record {
+      job = kept_unbegun (exported_output extent) no_input (Unit {0}) tt;
       holds = record {
         events = λ old reads told. started tells.moment tells.left_since disk
             (λ image. tells.images disk image ⊎ StandsFor old image) (λ image since. inl (only_now image since));
         all = λ good. absurd (not_good good);
       };
-      unread = source_same;
     }
+
+    -- that of an operated one, where there is its file
+    writes_unbegun : (extent : Extent) (file : File) → IsRested file →
+        WritesJournal extent (rested sink SameSink) (rested_disk tells disk) file status.OutOfMemory
+    writes_unbegun extent no_file rest = export_unbegun extent
+    writes_unbegun extent (a_file file) rest = record {
+      result = Err extracted.Memory;
+      told = refl;
+      ends = (inl sink_same, sym (ap (λ (edge : Edge). edge.faults) rest), refl);
+      unkept = refl;
+    }
+
+    -- either
+    journal_unbegun : (extent : Extent) (file : File) → IsRested file →
+        JournalEnds extent (rested source SameSource) (rested sink SameSink) (rested_disk tells disk) file
+        status.OutOfMemory
+    journal_unbegun extent file rest =
+        record { writes = writes_unbegun extent file rest; unread = source_same }
 
     -- one on an operated plant
     operating_unbegun : JobLaws → OperatingEnds (rested source SameSource) (rested sink SameSink)
@@ -202,15 +233,17 @@ module _ (source sink : Edge) (SameSource SameSink : Type 0) (source_same : Same
     where
       -- any task
       pub unbegun_ends : JobLaws → (task : Task) →
+          (file : File) → IsRested file →
           TaskEnds task (rested source SameSource) (rested sink SameSink) (rested_disk tells disk)
-          (rested_disk told ledger) status.OutOfMemory
+          (rested_disk told ledger) file status.OutOfMemory
       unfolding no_memory_ends job_ends
-      unbegun_ends laws (Serial task) = serial_unbegun laws task
-      unbegun_ends laws (Live task) = record {
+      unbegun_ends laws (Serial task) file rest = serial_unbegun laws task
+      unbegun_ends laws (Live task) file rest = record {
         job = no_memory_ends planted (refused_as Site) source SameSource;
         writes = inl (Keeps_refl sink.bytes);
         unbegun = λ good write memory. absurd (memory refl);
       }
-      unbegun_ends laws Keep = keeping_unbegun tells disk only_now
-      unbegun_ends laws Export = export_unbegun tells disk only_now
-      unbegun_ends laws Operate = operating_unbegun told ledger only_then laws
+      unbegun_ends laws Keep file rest = keeping_unbegun tells disk only_now
+      unbegun_ends laws Export file rest = journal_unbegun tells disk only_now Whole file rest
+      unbegun_ends laws Compact file rest = journal_unbegun tells disk only_now Compacted file rest
+      unbegun_ends laws Operate file rest = operating_unbegun told ledger only_then laws

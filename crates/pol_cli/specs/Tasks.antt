@@ -11,7 +11,7 @@ use Rattle.pol_arguments.specs.Words.{Means}
 use Rattle.pol_arguments.specs.declared.SerialTask.{SerialTask}
 use Rattle.pol_arguments.specs.declared.SerialTask.TheVariants.{Replay, Demo, Audit, Find, Guard, Migrate}
 use Rattle.pol_arguments.specs.declared.Task.{Task}
-use Rattle.pol_arguments.specs.declared.Task.TheVariants.{Serial, Live, Keep, Export, Operate}
+use Rattle.pol_arguments.specs.declared.Task.TheVariants.{Serial, Live, Keep, Export, Compact, Operate}
 use Rattle.pol_demo.specs.Summary.{demo_output}
 use Rattle.pol_jobs.specs.Ends.{Completes, Ends}
 use Rattle.pol_jobs.specs.LineWork.{Output, texts_of}
@@ -21,6 +21,10 @@ use Rattle.pol_find.specs.Finding.{found}
 use Rattle.pol_find.specs.Starts.{BindingsStart}
 use Rattle.pol_guard.specs.Guarded.{guarded}
 use Rattle.pol_guard.specs.Laws.{GuardTheorem}
+use Rattle.pol_extract.specs.Extracts.{ExtractEnds}
+use Rattle.pol_extract.specs.declared.fault.ExtractFault.{ExtractFault}
+use Rattle.pol_journal.specs.declared.extent.Extent.{Extent}
+use Rattle.pol_journal.specs.declared.extent.Extent.TheVariants.{Whole, Compacted}
 use Rattle.pol_keep.specs.Exported.{exported_output}
 use Rattle.pol_keep.specs.Keeping.{plant_job}
 use Rattle.pol_keep.specs.Kept.{KeepEnds, kept_output}
@@ -41,8 +45,9 @@ use Rattle.pol_store.specs.Work.{plant_work}
 use Rattle.pol_cli.specs.Keeping.{BeginsOnStores, DiskFailed, HoldsEvents, KeepsInput}
 use Rattle.pol_cli.specs.Operating.{BeginsOnLedgers, HasNoPolicy}
 use Rattle.pol_cli.specs.SiteRuns.{RunWrites, planted}
-use Rattle.pol_cli.specs.Statuses.{no_refusal, refused_as, status_of, status_of_kept, status_of_operated}
-use Rattle.pol_cli.specs.Worked.{Disks, Edges, no_source}
+use Rattle.pol_cli.specs.Statuses.{no_refusal, refused_as, status_of, status_of_extracted, status_of_kept}
+use Rattle.pol_cli.specs.Statuses.{status_of_operated}
+use Rattle.pol_cli.specs.Worked.{Disks, Edges, File, a_file, no_file, no_source}
 use Rattle.pol_cli.specs.declared.status.Wanted.TheVariants.{Site, Policy}
 use Rattle.pol_cli.specs.declared.status.Status.{Status}
 use Rattle.pol_cli.specs.declared.status.Status.TheVariants.{Good, BadWords, WriteFault, OutOfMemory}
@@ -138,12 +143,32 @@ pub record KeepingEnds {D : Type 0} (source sink : Edges) (disk : Disks D) (stat
   -- what the disk holds at the end, and what a crash at any moment leaves
   pub keeps : KeepsInput plant_work plant_job source sink disk status
 
--- how an export ended
-pub record ExportEnds {D : Type 0} (source sink : Edges) (disk : Disks D) (status : Status) : Type 0 where
-  -- its output is the journal of the events that the disk read as, and it needs no input
-  pub job : KeptEnds exported_output no_source sink disk status
+-- how a job ended that writes the journal of a kept plant
+pub record ExportEnds {D : Type 0} (extent : Extent) (sink : Edges) (disk : Disks D) (status : Status) : Type 0 where
+  -- its output is the journal of this extent of the events that the disk read as, and it needs no input
+  pub job : KeptEnds (exported_output extent) no_source sink disk status
   -- nothing happens to these events, whenever a crash comes
   pub holds : HoldsEvents disk status
+
+-- how a job ended that writes the journal of an operated plant, by the file that it read: with some result, whose
+-- status this is and whose row of `ExtractEnds` holds; the disk of a kept plant is as it was
+pub record ExtractingEnds {D : Type 0} (extent : Extent) (file sink : Edges) (disk : Disks D) (status : Status) : Type 0
+  where
+    pub result : Result (Unit {0}) ExtractFault
+    pub told : status ≡ status_of_extracted result
+    pub ends : ExtractEnds extent file.before file.after sink.before sink.after sink.Untouched result
+    pub unkept : disk.after ≡ disk.before
+
+-- the journal of the plant of this folder was written: of an operated plant where there is its file, and else of the
+-- kept one
+abbrev pub WritesJournal : {D : Type 0} → Extent → Edges → Disks D → File → Status → Type 0
+WritesJournal extent sink disk no_file status = ExportEnds extent sink disk status
+WritesJournal extent sink disk (a_file file) status = ExtractingEnds extent file sink disk status
+
+-- how a job that writes a journal ended
+pub record JournalEnds {D : Type 0} (extent : Extent) (source sink : Edges) (disk : Disks D) (file : File)
+    (status : Status) : Type 0 where
+  pub writes : WritesJournal extent sink disk file status
   -- the source isn't read
   pub unread : source.Untouched
 
@@ -198,26 +223,32 @@ SerialEnds Find source sink status = FindEnds source sink status
 SerialEnds Guard source sink status = GuardEnds source sink status
 SerialEnds Migrate source sink status = MigrationEnds source sink status
 
--- how a task ended; the jobs on the kept plant alone look at the disk, the one on the operated plant at the ledger
-abbrev pub TaskEnds : {D L : Type 0} → Task → Edges → Edges → Disks D → Disks L → Status → Type 0
-TaskEnds (Serial task) source sink disk ledger status = SerialEnds task source sink status
-TaskEnds (Live task) source sink disk ledger status = PlantEnds source sink status
-TaskEnds Keep source sink disk ledger status = KeepingEnds source sink disk status
-TaskEnds Export source sink disk ledger status = ExportEnds source sink disk status
-TaskEnds Operate source sink disk ledger status = OperatingEnds source sink ledger status
+-- how a task ended; the jobs on the kept plant alone look at the disk, the one on the operated plant at the ledger, and
+-- those that write a journal at the file of an operated plant, where there is one to read
+abbrev pub TaskEnds : {D L : Type 0} → Task → Edges → Edges → Disks D → Disks L → File → Status → Type 0
+TaskEnds (Serial task) source sink disk ledger file status = SerialEnds task source sink status
+TaskEnds (Live task) source sink disk ledger file status = PlantEnds source sink status
+TaskEnds Keep source sink disk ledger file status = KeepingEnds source sink disk status
+TaskEnds Export source sink disk ledger file status = JournalEnds Whole source sink disk file status
+TaskEnds Compact source sink disk ledger file status = JournalEnds Compacted source sink disk file status
+TaskEnds Operate source sink disk ledger file status = OperatingEnds source sink ledger status
 
 -- ---- what the words have to do with it
 
--- the words ask for a job on the kept plant
+-- the words ask for a journal
+abbrev pub AskForJournal : List (List ℕ) → Type 0
+AskForJournal words = Means words Export ⊎ Means words Compact
+
+-- the words ask for a job that may look at the disk of a kept plant
 abbrev pub AskForKept : List (List ℕ) → Type 0
-AskForKept words = Means words Keep ⊎ Means words Export
+AskForKept words = Means words Keep ⊎ AskForJournal words
 
 -- the words ask for a job that may end with this status: with 10 one on a kept or an operated plant, with 11 one on a
--- kept plant, with 12 the one on an operated plant, and with another any
+-- kept plant, with 12 one on an operated plant, and with another any
 abbrev pub AskForDiskOf : List (List ℕ) → Status → Type 0
 AskForDiskOf words DiskFault = AskForKept words ⊎ Means words Operate
 AskForDiskOf words (NotAStore place) = AskForKept words
-AskForDiskOf words (NotALedger place) = Means words Operate
+AskForDiskOf words (NotALedger place) = Means words Operate ⊎ AskForJournal words
 AskForDiskOf words _ = Unit {0}
 
 -- Which status comes where the words mean a task, and where they mean none.

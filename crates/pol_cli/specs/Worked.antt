@@ -1,5 +1,5 @@
 -- What a call works on, as it was before and as it is after: a source, a sink, a disk.
-use Rattle.std.specs.Prelude.{ℕ, ◌≡◌, List, Option}
+use Rattle.std.specs.Prelude.{ℕ, ◌≡◌, List, Option, Some, None}
 use Rattle.kept_jobs.specs.Telling.{Telling, telling}
 use Rattle.pol_io.specs.Edge.{Edge}
 use Rattle.pol_jobs.specs.Ends.{edge}
@@ -23,6 +23,17 @@ edges bytes faults before after =
 -- a source that no one looks at: an input without a byte
 abbrev pub no_source : Edges
 no_source = record { before = no_input; after = no_input; Untouched = Unit {0} }
+
+-- the file of an operated plant, as a source gives its bytes, if the folder of the plant has one to read
+pub data File : Type 1 where
+  no_file : File
+  a_file : Edges → File
+
+-- the one of a source whose kind tells this, if there is one
+abbrev pub file_of : {F : Type 0} → (F → Option (List ℕ)) → (F → ℕ) → Option F → Option F → File
+file_of bytes faults None after = no_file
+file_of bytes faults (Some before) None = no_file
+file_of bytes faults (Some before) (Some after) = a_file (edges bytes faults before after)
 
 -- a disk, and what its kind tells
 pub record Disks (D : Type 0) : Type 1 where

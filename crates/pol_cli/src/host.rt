@@ -5,7 +5,7 @@ use pol_disk::Disk;
 use pol_io::{ReaderSource, SystemClock, WriterSink};
 use pol_live::OpenGate;
 use std::env;
-use std::io::{self, BufWriter, ErrorKind};
+use std::io::{self, BufWriter, ErrorKind, Read};
 use std::process::ExitCode;
 use std::rt::{Clock, Env};
 use std::sync::Wait;
@@ -31,8 +31,13 @@ fn unread(error: &io::Error) -> Status {
     }
 }
 
-// Does what the words ask for, with the runtime's input, output and clock, and with this disk and this ledger.
-fn do_asked<R, D: Disk + Drop, L: Disk + Drop>(rt: &R, disk: D, ledger: L) -> Status
+// Does what the words ask for, with the runtime's input, output and clock, and with this disk, this ledger and this file.
+fn do_asked<R, D: Disk + Drop, L: Disk + Drop, F: Read + Drop>(
+    rt: &R,
+    disk: D,
+    ledger: L,
+    file: Option<F>,
+) -> Status
 where
     R: Env + Input + Print + Clock + AllocGlobal + Threads + Wait + Sync,
 {
@@ -46,6 +51,7 @@ where
     let mut source = ReaderSource::new(rt.reader());
     let mut sink = WriterSink::new(out);
     let clock = SystemClock::new(rt);
+    let mut file = file.map(ReaderSource::new);
     let (status, _disk, _ledger) = top(
         rt,
         rt.alloc(),
@@ -56,6 +62,7 @@ where
         &OpenGate,
         disk,
         ledger,
+        &mut file,
     );
     end(status, &mut sink)
 }
@@ -75,13 +82,19 @@ fn say<R: Eprint + AllocGlobal>(rt: &R, status: &Status) {
 }
 
 /// The program: it does what its words ask for (`top`), keeps a plant on this disk, or one that is operated on this
-/// ledger, where they ask for that, hands on what it wrote (`end`), says on standard error how it ended where not all
-/// is good, and ends with the status's number.
-pub fn run<R, D: Disk + Drop, L: Disk + Drop>(rt: &R, disk: D, ledger: L) -> ExitCode
+/// ledger, or writes the journal of one of them, of the operated one where its file is given, where they ask for that,
+/// hands on what it wrote (`end`), says on standard error how it ended where not all is good, and ends with the status's
+/// number.
+pub fn run<R, D: Disk + Drop, L: Disk + Drop, F: Read + Drop>(
+    rt: &R,
+    disk: D,
+    ledger: L,
+    file: Option<F>,
+) -> ExitCode
 where
     R: Env + Input + Print + Eprint + Clock + AllocGlobal + Threads + Wait + Sync,
 {
-    let status = do_asked(rt, disk, ledger);
+    let status = do_asked(rt, disk, ledger, file);
     say(rt, &status);
     ExitCode::from(status.number())
 }

@@ -6,8 +6,8 @@ ghost use Rattle.pol_arguments.specs.declared.Task.{Task};
 ghost use Rattle.pol_arguments.specs.declared.Task.TheVariants.{Operate};
 ghost use Rattle.pol_cli.specs.Journal.{JournalTheorem, Laws};
 ghost use Rattle.pol_cli.specs.Statuses.{IsEnd};
-ghost use Rattle.pol_cli.specs.Tasks.{AskForKept, GoesByWords, TaskEnds};
-ghost use Rattle.pol_cli.specs.Worked.{disks, edges};
+ghost use Rattle.pol_cli.specs.Tasks.{AskForJournal, AskForKept, GoesByWords, TaskEnds};
+ghost use Rattle.pol_cli.specs.Worked.{disks, edges, file_of};
 
 use crate::jobs::{export, keep, live, operate, serve};
 use crate::laws::laws_hold;
@@ -15,6 +15,7 @@ use crate::status::Status;
 use pol_arguments::{Task, WordFault, read_words};
 use pol_disk::Disk;
 use pol_io::{Clock, Sink, SinkFault, Source};
+use pol_journal::Extent;
 use pol_live::Gate;
 use std::alloc::Global;
 use std::sync::Wait;
@@ -23,7 +24,8 @@ use std::thread::Threads;
 /// Does what the words ask for; the first word is the program's name. Words that ask for no task leave the source and
 /// the sink as they were. The runtime, the clock and the gate are for the plant alone, which may wait; all other
 /// jobs wait for nobody. The disk is for the jobs on the kept plant alone, and the ledger, another disk, for the one on
-/// the operated plant; both come back.
+/// the operated plant; both come back. The file, where one is given, is that of an operated plant, as a source: a
+/// journal is then written of it, and not of the disk.
 pub fn top<
     R: Threads + Wait + Sync,
     S: Source,
@@ -32,6 +34,7 @@ pub fn top<
     G: Gate,
     D: Disk,
     L: Disk,
+    F: Source,
 >(
     rt: &R,
     alloc: Global,
@@ -42,12 +45,14 @@ pub fn top<
     gate: &G,
     disk: D,
     ledger: L,
+    file: &mut Option<F>,
 ) -> (Status, D, L)
     // The task that the words mean ended as its record says: what it wrote, why it ended, what holds of what it wrote.
     ensures ends { (task : Task) → Means (texts_of words.now) task
         → TaskEnds task (edges S.left S.faults source.old source.new) (edges K.held K.faults sink.old sink.new)
         (disks D.bytes D.images D.moment D.left_since D.faults disk result.1)
-        (disks L.bytes L.images L.moment L.left_since L.faults ledger result.2) result.0 }
+        (disks L.bytes L.images L.moment L.left_since L.faults ledger result.2)
+        (file_of F.left F.faults file.old file.new) result.0 }
     // Which status comes where the words mean a task, and which where they mean none.
     ensures words { GoesByWords (texts_of words.now) (edges S.left S.faults source.old source.new)
         (edges K.held K.faults sink.old sink.new) result.0 }
@@ -55,6 +60,8 @@ pub fn top<
     ensures unkept { ¬ AskForKept (texts_of words.now) → result.1 ≡ disk }
     // Other tasks than the one on the operated plant leave the ledger as it was.
     ensures unoperated { ¬ Means (texts_of words.now) Operate → result.2 ≡ ledger }
+    // Other tasks than those that write a journal leave the file as it was.
+    ensures unexported { ¬ AskForJournal (texts_of words.now) → file.new ≡ file.old }
     // What holds of the history that an input leaves, whatever the input.
     ensures theorem { (bytes : List ℕ) → JournalTheorem bytes }
     // What holds of every legal history, whatever it comes from.
@@ -72,7 +79,11 @@ pub fn top<
             (status, disk, ledger)
         }
         Ok(Task::Export) => {
-            let (status, disk) = export(alloc, sink, disk);
+            let (status, disk) = export(alloc, Extent::Whole, sink, disk, file);
+            (status, disk, ledger)
+        }
+        Ok(Task::Compact) => {
+            let (status, disk) = export(alloc, Extent::Compacted, sink, disk, file);
             (status, disk, ledger)
         }
         Ok(Task::Operate) => {

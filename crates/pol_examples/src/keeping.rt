@@ -37,6 +37,7 @@ fn run_on<R: Threads + Wait + Sync>(
     let mut sink = SureSink::new(alloc);
     let clock = MemoryClock::new(Vec::new(alloc));
     let ledger = empty_disk(alloc)?;
+    let mut file: Option<SureSource> = None;
     let (status, disk, _ledger) = top(
         rt,
         alloc,
@@ -47,6 +48,7 @@ fn run_on<R: Threads + Wait + Sync>(
         &OpenGate,
         disk,
         ledger,
+        &mut file,
     );
     Ok(Kept {
         status: status.number(),

@@ -20,14 +20,16 @@ struct Operated {
     ledger: MemoryDisk,
 }
 
-// A run of the job operate on a ledger.
-fn operate_on<R: Threads + Wait + Sync>(
+// A run of the job of these words, on a ledger and with the file of one.
+fn run_on<R: Threads + Wait + Sync>(
     rt: &R,
     alloc: Global,
+    line: &str,
     input: &str,
     ledger: MemoryDisk,
+    mut file: Option<SureSource>,
 ) -> Result<Operated, Fail> {
-    let words = words_of(alloc, "pol --job operate")?;
+    let words = words_of(alloc, line)?;
     let mut source = SureSource::new(input.as_bytes().to_vec(alloc)?);
     let mut sink = SureSink::new(alloc);
     let clock = MemoryClock::new(Vec::new(alloc));
@@ -42,6 +44,7 @@ fn operate_on<R: Threads + Wait + Sync>(
         &OpenGate,
         disk,
         ledger,
+        &mut file,
     );
     Ok(Operated {
         status: status.number(),
@@ -49,6 +52,27 @@ fn operate_on<R: Threads + Wait + Sync>(
         output: sink.bytes().to_vec(alloc)?,
         ledger,
     })
+}
+
+// A run of the job operate on a ledger.
+fn operate_on<R: Threads + Wait + Sync>(
+    rt: &R,
+    alloc: Global,
+    input: &str,
+    ledger: MemoryDisk,
+) -> Result<Operated, Fail> {
+    run_on(rt, alloc, "pol --job operate", input, ledger, None)
+}
+
+// A run of the job of these words on a file of these bytes.
+fn journal_of<R: Threads + Wait + Sync>(
+    rt: &R,
+    alloc: Global,
+    line: &str,
+    bytes: &[u8],
+) -> Result<Operated, Fail> {
+    let file = SureSource::new(bytes.to_vec(alloc)?);
+    run_on(rt, alloc, line, POLICY, empty_disk(alloc)?, Some(file))
 }
 
 // ---- one run after another
@@ -167,6 +191,60 @@ fn a_record_that_was_changed_or_moved_does_not_follow(rt: HostRuntime) -> Result
     let without = [front, behind].concat(alloc)?;
     is_refused_at(&rt, alloc, &without, "pol: does not follow at 348")?;
     is_refused_at(&rt, alloc, &[1, 0], "pol: does not follow at 0")
+}
+
+// ---- journals
+
+// The events of the first run, as a journal has them: without who asked, and without what was denied or at fault.
+const EVENTS: &str =
+    r#"{"at":2,"desc":{"services":[{"name":"dose","procedures":[{"default":true,"number":1,"params":[{"kind":"DIntServParam","max":5000,"min":0,"name":"amount"}],"self_completing":true}]}],"type":"Doser","variables":[],"version":"1.0.0"},"ev":"plug","tag":"M"}
+{"CommandEn":4,"Mode":"Automatic","ProcedureCur":0,"Src":"External","StateCur":16,"at":3,"ev":"report","service":"dose","tag":"M"}
+{"at":4,"chart":{"procedure":1,"role":"doser","service":"dose","settings":[{"name":"amount","value":1500}],"step":"fill"},"ev":"recipe","recipe":"one","roles":[{"role":"doser","type":"Doser","version":"^1"}]}
+{"at":6,"batch":"b","bind":{"doser":"M"},"ev":"start","recipe":"one"}
+{"at":7,"batch":"b","ev":"advance"}
+{"at":8,"desc":{"services":[{"name":"stir","procedures":[{"default":true,"number":1,"params":[],"self_completing":false}]}],"type":"Mixer","variables":[],"version":"1.0.0"},"ev":"plug","tag":"N"}
+{"CommandEn":4,"Mode":"Operator","ProcedureCur":0,"Src":"Internal","StateCur":16,"at":9,"ev":"report","service":"stir","tag":"N"}
+"#;
+
+// The last of them, which doesn't stay where they are compacted: what an operator asked of a service.
+const DESK: &str =
+    "{\"CommandOp\":4,\"at\":10,\"ev\":\"desk\",\"service\":\"stir\",\"tag\":\"N\"}\n";
+
+#[test]
+fn the_file_of_an_operated_plant_is_written_as_a_journal(rt: HostRuntime) -> Result<(), Fail> {
+    let alloc = rt.alloc();
+    let first = first_run(&rt, alloc)?;
+    let file = first.ledger.bytes();
+    let whole = [EVENTS, DESK].concat(alloc)?;
+    for (line, bytes, journal) in [
+        ("pol --job export", file, whole.as_str()),
+        ("pol --job compact", file, EVENTS),
+        ("pol --job export", &file[..0], ""),
+        ("pol --job compact", &file[..0], ""),
+    ] {
+        let run = journal_of(&rt, alloc, line, bytes)?;
+        assert_eq!(rt; run.status, 0, "{line}");
+        assert!(rt; run.output.as_slice() == journal.as_bytes(), "{line}");
+        assert!(rt; run.ledger.bytes().is_empty(), "{line}");
+    }
+    Ok(())
+}
+
+#[test]
+fn no_journal_is_written_of_a_file_that_does_not_follow(rt: HostRuntime) -> Result<(), Fail> {
+    let alloc = rt.alloc();
+    let first = first_run(&rt, alloc)?;
+    let cut = first.ledger.bytes().get(..400).ok_or("no such byte")?;
+    for line in ["pol --job export", "pol --job compact"] {
+        let run = journal_of(&rt, alloc, line, cut)?;
+        assert_eq!(rt; run.status, 12, "{line}");
+        assert!(rt;
+            run.told.as_slice() == "pol: does not follow at 348".as_bytes(),
+            "{line}"
+        );
+        assert!(rt; run.output.is_empty(), "{line}");
+    }
+    Ok(())
 }
 
 // ---- no policy

@@ -36,8 +36,9 @@ pub fn end_of<R: Threads + Wait + Sync, S: Source, K: Sink>(
     let (Ok(disk), Ok(ledger)) = (empty_disk(alloc), empty_disk(alloc)) else {
         return Status::OutOfMemory;
     };
+    let mut file: Option<SureSource> = None;
     let (status, _disk, _ledger) = top(
-        rt, alloc, words, source, sink, clock, &OpenGate, disk, ledger,
+        rt, alloc, words, source, sink, clock, &OpenGate, disk, ledger, &mut file,
     );
     status
 }

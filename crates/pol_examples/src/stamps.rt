@@ -125,6 +125,7 @@ fn two_actors_meet_at_the_gate_and_the_stamps_of_each_actor_rise(
     };
     let disk = empty_disk(alloc)?;
     let ledger = empty_disk(alloc)?;
+    let mut file: Option<SureSource> = None;
     let (status, _disk, _ledger) = top(
         &rt,
         alloc,
@@ -135,6 +136,7 @@ fn two_actors_meet_at_the_gate_and_the_stamps_of_each_actor_rise(
         &gate,
         disk,
         ledger,
+        &mut file,
     );
     assert_eq!(rt; status.number(), 0);
     assert_eq!(rt; gate.met.load(Ordering::SeqCst), 2);

@@ -43,6 +43,7 @@ fn each_watcher_that_is_asked_for_looks_a_thousand_times(rt: HostRuntime) -> Res
         };
         let disk = empty_disk(alloc)?;
         let ledger = empty_disk(alloc)?;
+        let mut file: Option<SureSource> = None;
         let (status, _disk, _ledger) = top(
             &rt,
             alloc,
@@ -53,6 +54,7 @@ fn each_watcher_that_is_asked_for_looks_a_thousand_times(rt: HostRuntime) -> Res
             &gate,
             disk,
             ledger,
+            &mut file,
         );
         assert_eq!(rt; status.number(), 0);
         assert_eq!(rt; gate.first.load(Ordering::SeqCst), watchers, "{line}");

@@ -7,15 +7,19 @@
 //! have to be read for this), that a device has what a sync brought it and loses nothing but what was written since,
 //! and that nobody else writes to the file.
 //!
+//! A `FileToRead` is only read, and tells nothing.
+//!
 //! Tried by tests of its own.
 #![tactic(auto)]
 
 mod file;
 mod opening;
+mod reading;
 mod record;
 mod start;
 #[cfg(test)]
 mod tests;
 
 pub use file::FileDisk;
+pub use reading::FileToRead;
 pub use start::{Start, Unknown};

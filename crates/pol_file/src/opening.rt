@@ -57,7 +57,7 @@ fn open_or_make(rt: &HostRuntime, path: &str) -> io::Result<File> {
 
 // The same file at a number that no standard stream has. Where one was closed, the next file that is opened gets its
 // number, and what is meant for the stream would be written over that file.
-fn above_streams(file: File) -> io::Result<File> {
+pub(crate) fn above_streams(file: File) -> io::Result<File> {
     if file.as_raw_fd() > LAST_STREAM {
         return Ok(file);
     }

@@ -1,93 +1,24 @@
 -- The journal of a kept plant, line by line, and how the job ends that writes it.
-use Rattle.std.proofs.Common.{ℕ, ◌≡◌, ◌<◌, List, [], ◌∷◌, ◌++◌, length, Option, refl, sym, ap, subst, ◌∙◌, arith}
-use Rattle.std.proofs.Common.{append_assoc, append-nil, length-append}
+use Rattle.std.proofs.Common.{ℕ, ◌≡◌, List, [], ◌∷◌, ◌++◌, Option, inl, inr, refl, sym, ap, arith}
 use Rattle.std.specs.Prelude.{IfErr, OnErr, OnOk, Result, Ok, Err, ◌≢◌}
 use Rattle.std.specs.Io.KnownBytes.{Appends}
+use Rattle.std.specs.declared.convert.Infallible.{Infallible}
 use Rattle.pol_events.specs.Events.{PlainEvent}
 use Rattle.pol_io.specs.Causes.{HasCauseOf}
-use Rattle.pol_io.specs.Edge.{Edge}
-use Rattle.pol_io.proofs.Known.{Appends_none, Appends_trans, Keeps_refl}
-use Rattle.pol_jobs.specs.Ends.{Ends, IsRead, LeavesPart, stopped_closing}
+use Rattle.pol_io.proofs.Known.{Appends_none, Keeps_refl}
+use Rattle.pol_jobs.specs.Ends.{Ends, IsRead, LeavesPart, edge, stopped_at_end, stopped_closing}
+use Rattle.pol_jobs.specs.LineWork.{Output}
 use Rattle.pol_jobs.specs.Written.{WritesPart}
 use Rattle.pol_jobs.specs.declared.output.PutFault.{PutFault}
 use Rattle.pol_jobs.specs.declared.output.PutFault.TheVariants as put_fault
 use Rattle.pol_replay.specs.BatchLines.{WritesUpTo}
-use Rattle.pol_replay.proofs.BatchLines.{up_to_end, up_to_next}
-use Rattle.pol_record.specs.Texts.{event_text}
 use Rattle.pol_store.specs.Stands.{HasFirst, StandsFor}
-use Rattle.pol_keep.specs.Exported.{HandsOn, event_line, exported_output, journal_text, no_input, put_result}
+use Rattle.pol_journal.specs.Journals.{HandsOn, StopsWithin, event_line, journal_events, journal_text}
+use Rattle.pol_journal.specs.declared.extent.Extent.{Extent}
+use Rattle.pol_journal.proofs.Handed.{cut_next, cut_waiting, handed_on, last_handed, some_behind_waiting, waits_longer}
+use Rattle.pol_keep.specs.Exported.{exported_output, no_input, put_result}
 use Rattle.pol_keep.specs.Kept.{job_result}
 use Rattle.pol_keep.specs.declared.fault.KeepFault.TheVariants.{Disk, NotAStore}
-
--- ---- some of the lines were written
-
--- of bytes that wait some were not written
-pub cut_waiting : (held held' : Option (List ℕ)) (rest all : List ℕ) → 0 < length rest →
-    WritesUpTo held held' rest all → WritesPart held held' all
-cut_waiting held held' rest all some so_far = record {
-  some = record { written = so_far.written; more = rest; appended = so_far.appended; front = so_far.up_to };
-  proper = some;
-}
-
--- of some that were to follow a proper part was written
-pub cut_next : (held between held' : Option (List ℕ)) (next rest all : List ℕ) →
-    WritesUpTo held between (next ++ rest) all → WritesPart between held' next → WritesPart held held' all
-cut_next held between held' next rest all so_far part = record {
-  some = record {
-    written = so_far.written ++ part.some.written;
-    more = part.some.more ++ rest;
-    appended = Appends_trans held between held' so_far.written part.some.written so_far.appended part.some.appended;
-    front = append_assoc so_far.written part.some.written (part.some.more ++ rest)
-        ∙ ap (λ text. so_far.written ++ text) (sym (append_assoc part.some.written part.some.more rest)
-        ∙ ap (λ text. text ++ rest) part.some.front)
-        ∙ so_far.up_to;
-  };
-  proper = let more = part.proper in rw (length-append part.some.more rest) (omega arith);
-}
-
--- a line isn't empty
-pub some_line : (event : PlainEvent) (rest : List ℕ) → 0 < length (event_line event ++ rest)
-some_line event rest =
-    let feed : List ℕ = 10 ∷ [] in
-    rw (length-append (event_line event) rest, length-append (event_text event) feed) (omega arith)
-
--- nor are bytes that wait, and it behind them
-pub some_behind_waiting : (waiting : List ℕ) (event : PlainEvent) (rest : List ℕ) →
-    0 < length (waiting ++ (event_line event ++ rest))
-some_behind_waiting waiting event rest =
-    let line = some_line event rest in rw (length-append waiting (event_line event ++ rest)) (omega arith)
-
--- one more line was put behind those that wait
-pub waits_longer : (held held' : Option (List ℕ)) (waiting line rest all : List ℕ) →
-    WritesUpTo held held' (waiting ++ (line ++ rest)) all → WritesUpTo held held' ((waiting ++ line) ++ rest) all
-waits_longer held held' waiting line rest all so_far =
-    subst (λ behind. WritesUpTo held held' behind all) (sym (append_assoc waiting line rest)) so_far
-
--- some of those that waited were handed on
-pub handed_on : (held between held' : Option (List ℕ)) (waiting now rest all : List ℕ) →
-    WritesUpTo held between (waiting ++ rest) all → HandsOn between held' waiting now →
-    WritesUpTo held held' (now ++ rest) all
-handed_on held between held' waiting now rest all so_far hands =
-    up_to_next held between held' hands.written (now ++ rest) all
-    (subst (λ behind. WritesUpTo held between behind all)
-    (sym (ap (λ text. text ++ rest) hands.is) ∙ append_assoc hands.written now rest) so_far) hands.appended
-
--- nothing was handed on
-pub none_handed : (held : Option (List ℕ)) (waiting : List ℕ) → HandsOn held held waiting waiting
-none_handed held waiting = record { written = []; appended = Appends_none held held (Keeps_refl held); is = refl }
-
--- all was
-pub all_handed : (held held' : Option (List ℕ)) (waiting : List ℕ) → Appends held held' waiting →
-    HandsOn held held' waiting []
-all_handed held held' waiting appended =
-    record { written = waiting; appended = appended; is = append-nil waiting }
-
--- the last that waited was written
-pub last_handed : (held between held' : Option (List ℕ)) (waiting rest all : List ℕ) → rest ≡ [] →
-    WritesUpTo held between (waiting ++ rest) all → Appends between held' waiting → Appends held held' all
-last_handed held between held' waiting rest all none so_far appended =
-    up_to_end held held' all (up_to_next held between held' waiting [] all
-    (subst (λ rest. WritesUpTo held between (waiting ++ rest) all) none so_far) appended)
 
 -- ---- line after line
 
@@ -175,40 +106,58 @@ module _ (held between held' : Option (List ℕ)) (waiting rest : List ℕ) (eve
 
 -- ---- how it ends
 
+-- of no input nothing was left
+none_read : IsRead [] []
+none_read = record { to_end = refl; fits = omega arith }
+
+-- nothing was written, or a proper front part of what closes the output
+stops_part : (output : Output Infallible) (closing : List ℕ) → output.Closing [] closing → output.replies [] ≡ [] →
+    {K : Type 0} (held : K → Option (List ℕ)) (sink sink' : K) → StopsWithin held sink sink' closing →
+    LeavesPart output (held sink) (held sink') [] []
+stops_part output closing may silent held sink sink' (inl same) = stopped_at_end (record {
+  read = none_read;
+  some = record {
+    written = [];
+    more = [];
+    appended = rw same (Appends_none (held sink) (held sink) (Keeps_refl (held sink)));
+    front = sym silent;
+  };
+})
+stops_part output closing may silent held sink sink' (inr part) =
+    stopped_closing (record { read = none_read; closing = closing; may = may; part = rw silent part })
+
 -- the journal of these events was written, or a proper front part of it
-pub exported_ends : (events : List PlainEvent) (sink sink' : Edge) (result : Result (Unit {0}) PutFault) →
-    OnOk result (Appends sink.bytes sink'.bytes (journal_text events)) →
-    OnErr result (WritesPart sink.bytes sink'.bytes (journal_text events)) →
-    HasCauseOf put_fault.Write sink.faults sink'.faults result →
-    Ends (exported_output events) no_input no_input sink sink' (job_result (put_result result))
-exported_ends events sink sink' result whole part cause = by_result result whole part cause
-  where
-    none_read : IsRead [] []
-    none_read = record { to_end = refl; fits = omega arith }
-
-    leaves : WritesPart sink.bytes sink'.bytes (journal_text events) →
-        LeavesPart (exported_output events) sink.bytes sink'.bytes [] []
-    leaves part = stopped_closing
-        (record { read = none_read; closing = journal_text events; may = refl; part = part })
-
-    by_result : (result : Result (Unit {0}) PutFault) →
-        OnOk result (Appends sink.bytes sink'.bytes (journal_text events)) →
-        OnErr result (WritesPart sink.bytes sink'.bytes (journal_text events)) →
-        HasCauseOf put_fault.Write sink.faults sink'.faults result →
-        Ends (exported_output events) no_input no_input sink sink' (job_result (put_result result))
-    by_result (Ok done) whole part cause = (
-      record {
-        read = none_read;
-        accepted = (tt, λ reason refuses. refuses);
-        closing = journal_text events;
-        may = refl;
-        written = whole;
-      },
-      refl,
-      cause.done,
-    )
-    by_result (Err put_fault.Write) whole part cause = (leaves part, refl, cause.failed refl)
-    by_result (Err put_fault.Memory) whole part cause = (leaves part, refl, cause.other (λ same. cc))
+module _ (extent : Extent) (events : List PlainEvent) {K : Type 0} (held : K → Option (List ℕ)) (faults : K → ℕ)
+    (sink sink' : K) where
+  pub exported_ends : (result : Result (Unit {0}) PutFault) →
+      OnOk result (Appends (held sink) (held sink') (journal_text (journal_events extent events))) →
+      OnErr result (StopsWithin held sink sink' (journal_text (journal_events extent events))) →
+      HasCauseOf put_fault.Write (faults sink) (faults sink') result →
+      Ends (exported_output extent events) no_input no_input (edge (held sink) (faults sink))
+      (edge (held sink') (faults sink')) (job_result (put_result result))
+  exported_ends (Ok done) whole part cause = (
+    record {
+      read = none_read;
+      accepted = (tt, λ reason refuses. refuses);
+      closing = journal_text (journal_events extent events);
+      may = refl;
+      written = whole;
+    },
+    refl,
+    cause.done,
+  )
+  exported_ends (Err put_fault.Write) whole part cause = (
+    stops_part (exported_output extent events) (journal_text (journal_events extent events)) refl refl held sink sink'
+        part,
+    refl,
+    cause.failed refl,
+  )
+  exported_ends (Err put_fault.Memory) whole part cause = (
+    stops_part (exported_output extent events) (journal_text (journal_events extent events)) refl refl held sink sink'
+        part,
+    refl,
+    cause.other (λ same. cc),
+  )
 
 -- a job that only writes tells nothing of the disk
 pub put_no_disk : (result : Result (Unit {0}) PutFault) → IfErr (put_result result) (λ fault. fault ≢ Disk)

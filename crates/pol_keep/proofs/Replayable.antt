@@ -16,7 +16,8 @@ use Rattle.pol_retold.specs.Replayed.{IsShortEvent, ReplaysAnswer, journal_of}
 use Rattle.pol_kept.specs.Stands.{AreTextsOf}
 use Rattle.pol_store.specs.Lawful.{recorded_is, room_recorded}
 use Rattle.pol_store.specs.Work.{plant_work}
-use Rattle.pol_keep.specs.Exported.{JournalsAreReplayed, event_line, journal_text}
+use Rattle.pol_journal.specs.Journals.{event_line, journal_text}
+use Rattle.pol_keep.specs.Exported.{JournalsAreReplayed}
 use Rattle.pol_keep.proofs.Orderly.{all_reverse}
 
 -- where there is room for all of them, the run of some events stands behind the history

@@ -1,7 +1,6 @@
 -- The journal of the events that a disk keeps, and how a job ends that writes it.
 use Rattle.std.specs.Prelude.{ℕ, ◌≡◌, ◌≤◌, List, [], ◌∷◌, ◌++◌, length, Option, Some, Result, Ok, Err}
 use Rattle.std.specs.List.{AllByRecursion, flat_map}
-use Rattle.std.specs.Io.KnownBytes.{Appends}
 use Rattle.std.specs.declared.convert.Infallible.{Infallible}
 use Rattle.mtp_codes.specs.declared.limits.TheConstants.{LONGEST_HISTORY}
 use Rattle.pol_events.specs.Events.{PlainEvent}
@@ -14,21 +13,16 @@ use Rattle.pol_jobs.specs.declared.output.PutFault.{PutFault}
 use Rattle.pol_jobs.specs.declared.output.PutFault.TheVariants as put_fault
 use Rattle.pol_record.specs.Lines.{closing_text, output_of}
 use Rattle.pol_record.specs.Texts.{answer_text, event_text}
+use Rattle.pol_journal.specs.Journals.{journal_events, journal_text}
+use Rattle.pol_journal.specs.declared.extent.Extent.{Extent}
 use Rattle.pol_store.specs.Stands.{StandsFor}
 use Rattle.pol_keep.specs.declared.fault.KeepFault.{KeepFault}
 use Rattle.pol_keep.specs.declared.fault.KeepFault.TheVariants.{Write, Memory}
 
--- the line of an event: its text and a line feed
-abbrev pub event_line : PlainEvent → List ℕ
-event_line event = event_text event ++ 10 ∷ []
-
--- the journal of some events: the line of each, in order
-abbrev pub journal_text : List PlainEvent → List ℕ
-journal_text events = flat_map event_line events
-
--- the output of the job on a plant where these events happened: nothing for lines, and in all their journal
-abbrev pub exported_output : List PlainEvent → Output Infallible
-exported_output old = texts_of (λ bytes. []) (λ bytes. journal_text old)
+-- the output of the job on a plant where these events happened: nothing for lines, and in all the journal of this
+-- extent of them
+abbrev pub exported_output : Extent → List PlainEvent → Output Infallible
+exported_output extent old = texts_of (λ bytes. []) (λ bytes. journal_text (journal_events extent old))
 
 -- an input without a byte, of a source that never fails
 abbrev pub no_input : Edge
@@ -39,12 +33,6 @@ abbrev pub put_result : Result (Unit {0}) PutFault → Result (Unit {0}) KeepFau
 put_result (Ok done) = Ok done
 put_result (Err put_fault.Write) = Err Write
 put_result (Err put_fault.Memory) = Err Memory
-
--- what a buffer held was written but for what it still holds
-pub record HandsOn (held held' : Option (List ℕ)) (before now : List ℕ) : Type 0 where
-  pub written : List ℕ
-  pub appended : Appends held held' written
-  pub is : written ++ now ≡ before
 
 -- the journal of these events can be read as an input: none of its lines is too long, and it isn't as a whole
 pub record IsReplayable (events : List PlainEvent) : Type 0 where

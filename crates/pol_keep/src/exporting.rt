@@ -10,21 +10,20 @@ ghost use Rattle.pol_history.specs.Runs.{events_of};
 ghost use Rattle.pol_io.specs.Causes.{HasCauseOf, Rose};
 ghost use Rattle.pol_jobs.specs.Ends.{Ends, edge};
 ghost use Rattle.pol_jobs.specs.Written.{WritesPart};
+ghost use Rattle.pol_journal.specs.Journals.{StopsWithin, journal_events, journal_text};
 ghost use Rattle.pol_store.specs.Opens.{IsNoStore};
 ghost use Rattle.pol_store.specs.Stands.{StandsFor, StandsForNone};
 ghost use Rattle.pol_store.specs.Work.{plant_work};
-ghost use Rattle.pol_keep.specs.Exported.{HandsOn, exported_output, journal_text, no_input};
+ghost use Rattle.pol_keep.specs.Exported.{exported_output, no_input};
 ghost use Rattle.pol_keep.specs.Kept.{IsUnopened, KeepEnds, job_result};
 
 use crate::fault::{KeepFault, put_ended, unopened};
 use pol_disk::Disk;
 use pol_io::Sink;
 use pol_jobs::{PutFault, put};
+use pol_journal::{Extent, put_if_enough, put_journal};
 use pol_store::{Store, first_text};
 use std::alloc::{AllocError, Global};
-
-// From how many bytes on lines are written together, by one call of the sink.
-const WRITTEN_TOGETHER: usize = 65_536;
 
 // Puts a text as a line behind what a buffer holds.
 fn put_line(lines: &mut Vec<u8>, text: &[u8]) -> Result<(), AllocError>
@@ -32,21 +31,6 @@ fn put_line(lines: &mut Vec<u8>, text: &[u8]) -> Result<(), AllocError>
 {
     lines.extend_from_slice(text)?;
     lines.push(b'\n')?;
-    Ok(())
-}
-
-// Writes what a buffer holds, where that is enough.
-#[tactic(auto, using(crate::proofs::Exported::none_handed, crate::proofs::Exported::all_handed))]
-fn put_if_enough<K: Sink>(lines: &mut Vec<u8>, sink: &mut K) -> Result<(), PutFault>
-    ensures text { OnOk result (HandsOn (K.held sink.old) (K.held sink.new) lines.old.items lines.new.items) }
-    ensures part { OnErr result (WritesPart (K.held sink.old) (K.held sink.new) lines.old.items) }
-    ensures cause { HasCauseOf PutFault.Write (K.faults sink.old) (K.faults sink.new) result }
-{
-    if lines.len() < WRITTEN_TOGETHER {
-        return Ok(());
-    }
-    put(sink, lines)?;
-    lines.clear();
     Ok(())
 }
 
@@ -68,36 +52,65 @@ fn put_lines<K: Sink>(alloc: Global, image: &[u8], sink: &mut K) -> Result<(), P
     put(sink, &lines)
 }
 
-// Writes the journal of an open store by the image that was read of it, and hands the disk back.
+// Writes the lines of the events of an open store that a journal of this extent has. A journal of all of them is made of
+// the texts in the image that was read of the store.
+fn put_extent<K: Sink, D: Disk>(
+    alloc: Global,
+    extent: Extent,
+    store: &Store<D>,
+    image: &[u8],
+    sink: &mut K,
+) -> Result<(), PutFault>
+    requires { StandsFor (events_of (plant_history store.now.plant)) image.now }
+    ensures text { OnOk result (Appends (K.held sink.old) (K.held sink.new)
+        (journal_text (journal_events extent (events_of (plant_history store.now.plant))))) }
+    ensures part { OnErr result (StopsWithin K.held sink.old sink.new
+        (journal_text (journal_events extent (events_of (plant_history store.now.plant))))) }
+    ensures cause { HasCauseOf PutFault.Write (K.faults sink.old) (K.faults sink.new) result }
+{
+    match extent {
+        Extent::Whole => put_lines(alloc, image, sink),
+        Extent::Compacted => put_journal(alloc, extent, store.plant().history(), sink),
+    }
+}
+
+// Writes the journal of an open store, of which this image was read, and hands the disk back.
 fn export_from<K: Sink, D: Disk>(
     alloc: Global,
+    extent: Extent,
     store: Store<D>,
     image: &[u8],
     sink: &mut K,
 ) -> (Result<(), KeepFault>, D)
     requires { StandsFor (events_of (plant_history store.plant)) image.now }
-    ensures ends { Ends (exported_output (events_of (plant_history store.plant))) no_input no_input
+    ensures ends { Ends (exported_output extent (events_of (plant_history store.plant))) no_input no_input
         (edge (K.held sink.old) (K.faults sink.old)) (edge (K.held sink.new) (K.faults sink.new))
         (job_result result.0) }
     ensures no_disk { IfErr result.0 (λ fault. fault ≢ KeepFault.Disk) }
     ensures is_store { IfErr result.0 (λ fault. (place : ℕ) → fault ≢ KeepFault.NotAStore place) }
     ensures disk { result.1 ≡ store.disk }
 {
-    let done = put_lines(alloc, image, sink);
+    let done = put_extent(alloc, extent, &store, image, sink);
     let (_plant, disk) = store.into_parts();
     (put_ended(done), disk)
 }
 
-/// Writes each event that the disk keeps as its line, in order; the disk comes back. It opens the disk first, so where
-/// the disk is no store nothing is written. A replay of these lines answers as the events were answered, where none of
-/// the lines is too long, nor all of them together (`journals_are_replayed`).
+/// Writes each event that the disk keeps as its line, in order, or those alone that stay where they are compacted; the
+/// disk comes back. It opens the disk first, so where the disk is no store nothing is written. A replay of the lines of
+/// all answers as the events were answered, where none of the lines is too long, nor all of them together
+/// (`journals_are_replayed`); what those that stay still say is the law `compaction_keeps_answers` of `pol_compaction`.
 ///
 /// How it ends is one row for each result, with no input. `Disk` comes only where the disk's count of faults rose in
 /// this call, and `NotAStore` exactly where it did not and the disk reads as bytes for which no list of at most 200,000
 /// events stands, unless there was no memory. A crash at any moment of the call leaves what it might have left before,
 /// or the events that the disk reads as; where all is done, each image at the end stands for these.
-pub fn export<K: Sink, D: Disk>(alloc: Global, sink: &mut K, disk: D) -> (Result<(), KeepFault>, D)
-    ensures ends { KeepEnds exported_output (told_through (D.bytes disk) (D.bytes result.1)) no_input no_input
+pub fn export<K: Sink, D: Disk>(
+    alloc: Global,
+    extent: Extent,
+    sink: &mut K,
+    disk: D,
+) -> (Result<(), KeepFault>, D)
+    ensures ends { KeepEnds (exported_output extent) (told_through (D.bytes disk) (D.bytes result.1)) no_input no_input
         (edge (K.held sink.old) (K.faults sink.old)) (edge (K.held sink.new) (K.faults sink.new)) result.0 }
     ensures holds { HoldsOn plant_work (telling D.bytes D.images D.moment D.left_since D.faults) disk result.1 }
     ensures holds_all { OnOk result.0 (HoldsAll plant_work (telling D.bytes D.images D.moment D.left_since D.faults)
@@ -111,7 +124,7 @@ pub fn export<K: Sink, D: Disk>(alloc: Global, sink: &mut K, disk: D) -> (Result
         → ¬ Rose (D.faults disk) (D.faults result.1) → IsUnopened result.0 }
 {
     match Store::open(alloc, disk) {
-        Ok((store, image)) => export_from(alloc, store, &image, sink),
+        Ok((store, image)) => export_from(alloc, extent, store, &image, sink),
         Err((disk, fault)) => (Err(unopened(fault)), disk),
     }
 }

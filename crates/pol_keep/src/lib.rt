@@ -5,8 +5,8 @@
 //! (`specs/Kept.antt`). It is one of the jobs on kept items of `kept_jobs` (`specs/Keeping.antt`): a crash at any moment
 //! leaves the old events and those of the first lines, and at the end at least those that were answered; so over many
 //! runs, each ended by a crash, no answered event is lost. The disk is opened before the source is read. The kept
-//! events are written out as the lines of a journal by `export`, each text just as the disk has it
-//! (`specs/Exported.antt`).
+//! events are written out as the lines of a journal by `export`, each text just as the disk has it, or those alone
+//! that stay where they are compacted (`specs/Exported.antt`).
 //!
 //! Tried in `pol_examples`.
 #![tactic(auto)]

@@ -10,7 +10,7 @@ use Rattle.pol_texts.specs.Stands.{Stands}
 use Rattle.pol_texts.specs.declared.finding.Found.TheVariants.{Neither}
 use Rattle.pol_kept.specs.Work.{ChronicleWork, IsLawful}
 use Rattle.pol_kept.specs.Stands.{StandsFor, BreaksAt}
-use Rattle.pol_kept.specs.Opens.{Breaks, IsLeftOf, IsOpened, IsReplayed, IsNoStore, Tells}
+use Rattle.pol_kept.specs.Opens.{Breaks, IsLeftOf, IsOpened, IsReplayed, IsNoStore, IsUnread, Tells}
 use Rattle.pol_kept.specs.declared.opening.OpenFault.{OpenFault}
 use Rattle.pol_kept.specs.declared.opening.OpenFault.TheVariants.{Memory, Disk, NotAStore}
 use Rattle.pol_kept.proofs.Broken.{breaks_none}
@@ -108,6 +108,13 @@ module _ {State Item Answer : Type 0} (work : ChronicleWork State Item Answer) w
       both seen' (λ l. number ≡ length l) (λ l. BreaksAt work place l) (λ l. IsNoStore work l place)
           (λ l many broken. no_store l place (omega (arith, long, many)) broken) counted breaks,
     )
+
+    -- where an image of more than a byte isn't read, this is why
+    pub fault_unread : (fault : OpenFault) (image : List ℕ) → Breaks work image fault → fault ≢ Disk →
+        1 < length image → IsUnread work image fault
+    fault_unread Memory image breaks no_disk long = tt
+    fault_unread Disk image breaks no_disk long = no_disk refl
+    fault_unread (NotAStore place) image breaks no_disk long = no_store image place long breaks
 
   module _ {D : Type 0} (images : D → List ℕ → Type 0) (moment : D → ℕ) (left_since : D → ℕ → List ℕ → Type 0)
       (old mid : D) (all : List ℕ) (first : LeavesOnly moment left_since old mid (images old)) where

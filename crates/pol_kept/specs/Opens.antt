@@ -30,6 +30,13 @@ module _ {State Item Answer : Type 0} (work : ChronicleWork State Item Answer) w
     pub none : StandsForNone work image
     pub breaks : BreaksAt work place image
 
+  -- why an image isn't read: there was no memory, or its first record that isn't one stands at this place; no disk has to
+  -- do with it
+  abbrev pub IsUnread : List ℕ → OpenFault → Type 0
+  IsUnread image Memory = Unit {0}
+  IsUnread image Disk = ⊥
+  IsUnread image (NotAStore place) = IsNoStore image place
+
   -- what a fault says, where the disk tells its bytes still: of NotAStore, that no call of the disk failed; of Memory,
   -- that reads give what they gave
   abbrev pub Tells : OpenFault → Option (List ℕ) → Option (List ℕ) → ℕ → ℕ → Type 0

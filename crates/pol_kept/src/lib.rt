@@ -11,6 +11,7 @@
 
 mod chronicle;
 mod cutting;
+mod image;
 mod kept;
 mod opening;
 mod records;
@@ -18,5 +19,6 @@ mod replaying;
 
 pub use chronicle::Chronicle;
 pub use cutting::first_text;
+pub use image::read_image;
 pub use kept::{CommitFault, Kept, KeptRefusal};
 pub use opening::OpenFault;

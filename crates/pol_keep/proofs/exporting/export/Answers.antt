@@ -17,9 +17,9 @@ pub returns-in-Ok-clause-ends : goal.returns-in-Ok-clause-ends
 returns-in-Ok-clause-ends g c =
     let d = g.D.Disk in
     let history = plant_history c.in-Ok.store.plant in
-    rw c.export_from.ensures.disk (keep_ends exported_output _ _ _ _ _ c.export_from.result.0
+    rw c.export_from.ensures.disk (keep_ends (exported_output c.args.extent) _ _ _ _ _ c.export_from.result.0
     c.export_from.ensures.is_store
-    (keeps exported_output _ _ _ _ _ _ history c.in-Ok.ensures.legal c.in-Ok.ensures.orderly
+    (keeps (exported_output c.args.extent) _ _ _ _ _ _ history c.in-Ok.ensures.legal c.in-Ok.ensures.orderly
     (through_known (d.bytes c.args.disk) (d.bytes c.in-Ok.store.disk) (d.bytes c.in-Ok.store.disk)
     (StandsFor (events_of history)) (on_same (d.bytes c.in-Ok.store.disk)) c.in-Ok.ensures.stood)
     c.export_from.ensures.ends))

@@ -1,0 +1,18 @@
+//! The file of an operated plant, read as a source gives its bytes, and written as a journal.
+//!
+//! Nothing is asked of a disk: no lock is taken and nothing is written but the journal, so this may run beside the
+//! program that keeps the file. A file that grows meanwhile is read as it stood at some moment of the reading, for each
+//! record is there whole before the gate in front of it is opened, and the gate is read first. The main contract is
+//! that of `extract` (`specs/Extracts.antt`). It knows nothing of files, or of why an entry stays where a history is
+//! compacted.
+//!
+//! Tried in `pol_examples`.
+#![tactic(auto)]
+
+mod fault;
+mod job;
+mod stream;
+
+pub use fault::ExtractFault;
+pub use job::extract;
+pub use stream::{ReadFault, read_to_end};
