@@ -1,5 +1,5 @@
 // What the libraries share that stand between a program and the system (LD_PRELOAD): which numbers the program has for its file
-// pol.journal. It is opened more than once, and a number that is free again is given to another file.
+// pol.journal or pol.plant. It is opened more than once, and a number that is free again is given to another file.
 #include <dlfcn.h>
 #include <fcntl.h>
 #include <stdarg.h>
@@ -12,8 +12,8 @@ enum { MOST_FILES = 1024 };
 static char is_journal[MOST_FILES];
 
 static int opened(int file, const char *path) {
-    const char *name = strrchr(path, '/');
-    if (file >= 0 && file < MOST_FILES) is_journal[file] = !strcmp(name ? name + 1 : path, "pol.journal");
+    const char *slash = strrchr(path, '/'), *name = slash ? slash + 1 : path;
+    if (file >= 0 && file < MOST_FILES) is_journal[file] = !strcmp(name, "pol.journal") || !strcmp(name, "pol.plant");
     return file;
 }
 

@@ -1,4 +1,5 @@
-// A device beneath the file pol.journal of a program that is run with this library before the others (LD_PRELOAD).
+// A device beneath the file pol.journal or pol.plant of a program that is run with this library before the others
+// (LD_PRELOAD).
 //
 // The file itself is what reads give, as the kernel's copies of it do. The file $DEVICE is what the device has: what is left
 // when the power goes. A write reaches the kernel's copies alone, and leaves their pages dirty. A sync carries the dirty pages
