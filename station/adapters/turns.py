@@ -12,10 +12,17 @@ class Turns:
 
     def __init__(self):
         self.waiting, self.due, self.order = queue.SimpleQueue(), [], itertools.count()
+        self.hurried = queue.SimpleQueue()
 
     def put(self, deal):
         """Gives a call its turn. From any thread."""
         self.waiting.put((deal, None))
+
+    def hurry(self, deal):
+        """Gives a call its turn before all others: a person waits for it. From any thread."""
+        self.hurried.put(deal)
+        # It ends a wait.
+        self.put(lambda: None)
 
     def hand(self, deal):
         """Gives a call its turn, and comes back once it was made: what hands it on may forget it then. From any thread
@@ -44,6 +51,9 @@ class Turns:
 
     def make_one(self, seconds):
         """Makes the next call, if there is one within so many seconds."""
+        if not self.hurried.empty():
+            self.hurried.get()()
+            return
         until_due = self.due[0][0] - time.monotonic() if self.due else seconds
         if until_due <= 0:
             heapq.heappop(self.due)[2]()

@@ -15,7 +15,7 @@ STATION = pathlib.Path(__file__).resolve().parent.parent
 UNPLUG = '{"ev":"unplug","at":0,"tag":"T"}'
 DONE = '{"done":true}'
 # What the words of station/test say.
-PROGRAM, COUNT, SEED = [], 300, 0
+PROGRAM, COUNT, SEED, KILLS, MINUTES = [], 300, 0, 6, 0.0
 
 
 class Seen(typing.NamedTuple):

@@ -1,0 +1,76 @@
+"""The station's own file: which commands went out, and in which life of their modules. It is written before a command
+is sent, so that after a crash one that was never sent is told from one of which nobody knows."""
+import json
+import os
+
+NAME, DENIED = "station.jsonl", "denied.jsonl"
+
+
+class Notes:
+    """`sent` has the life of the module by the command's place and stamp, `over` the commands that a person doesn't
+    want any more, `lives` the last life of each module."""
+
+    def __init__(self, folder):
+        self.path, self.denied_path = folder / NAME, folder / DENIED
+        self.sent, self.over, self.lives = {}, set(), {}
+        for told in lines_of(self.path):
+            self.take(told)
+        self.file = None
+
+    def take(self, told):
+        if "sends" in told:
+            self.sent[tuple(told["sends"])] = told["life"]
+        if "over" in told:
+            self.over.add(tuple(told["over"]))
+        if "tag" in told:
+            self.lives[told["tag"]] = told["life"]
+
+    def begin(self, given):
+        """Writes the file anew with what still counts: the lives, and these commands."""
+        counts = {(each.place, each.at) for each in given}
+        self.sent, self.over = {key: life for key, life in self.sent.items() if key in counts}, self.over & counts
+        fresh = self.path.with_suffix(".new")
+        with open(fresh, "w", encoding="utf-8") as file:
+            for key, life in self.sent.items():
+                put(file, {"sends": key, "life": life})
+            for key in self.over:
+                put(file, {"over": key})
+            for tag, life in self.lives.items():
+                put(file, {"tag": tag, "life": life})
+            keep(file)
+        os.replace(fresh, self.path)
+        self.file = open(self.path, "a", encoding="utf-8")
+
+    def note(self, **told):
+        """Keeps a note, on the disk once this comes back."""
+        self.take(told)
+        put(self.file, told)
+        keep(self.file)
+
+    def deny(self, event, answer):
+        """Keeps a line that the policy denied: it is in no history."""
+        with open(self.denied_path, "a", encoding="utf-8") as file:
+            put(file, {"answer": answer, "event": event})
+
+    def close(self):
+        self.file.close()
+
+
+def put(file, told):
+    file.write(json.dumps(told, separators=(",", ":")) + "\n")
+
+
+def keep(file):
+    file.flush()
+    os.fsync(file.fileno())
+
+
+def lines_of(path):
+    """The lines of a file; one that a crash cut off says nothing."""
+    if not path.exists():
+        return
+    for line in path.read_text(encoding="utf-8", errors="replace").splitlines():
+        try:
+            yield json.loads(line)
+        except ValueError:
+            continue

@@ -1,0 +1,189 @@
+"""All that the page shows to a person: the plant as `pol` has it, what the modules show beyond that, and each press
+with what `pol` would answer it now."""
+import itertools
+
+from adapters.codes import STATE_NAMES
+from operating.alarms import now
+from operating.deeds import BATCH_DEEDS, DENIED, NOBODY, NOTHING
+from operating.plant import is_permitted
+from package.names import is_name
+
+MOST_CLOSED, MOST_ENTRIES, MOST_TRIED = 12, 30, 16
+SHORT = {"station": "short"}
+DOCKED, ORDER_DEEDS = ("exchange_begin", "unplug"), ("again", "forget")
+# Where a batch stands still and isn't only on its way: the wait, and for InState the states in which nothing moves.
+MOVING = ("Starting", "Execute", "Completing", "Resetting", "Unholding", "Resuming", "Holding", "Pausing")
+
+
+class Shown:
+    """Of a station."""
+
+    def __init__(self, station):
+        self.station, self.plant, self.deeds = station, station.plant, station.deeds
+
+    def to(self, by):
+        """All of it, as this person may see it. What is no name is nobody."""
+        by = by if is_name(by) else ""
+        state = self.plant.state(by)
+        batches = [batch for batch in state["batches"] if batch["outcome"] == "Running"]
+        closed = [batch for batch in state["batches"] if batch["outcome"] != "Running"][-MOST_CLOSED:]
+        return {"now": now(), "by": by, "people": self.station.site.people, "entries": state["entries"],
+                "modules": self.modules(state["modules"], by), "absent": self.absent(by),
+                "batches": self.batches(batches, by), "closed": closed[::-1],
+                "recipes": self.recipes(state, by), "still": self.still(batches, by),
+                "refused": self.refused(), "last": list(map(self.entry, self.plant.past.last))[-MOST_ENTRIES:],
+                "packages": sorted(self.station.site.packages)}
+
+    def presses(self, asked, by):
+        """For each event None where `pol` would do it for this person, else what it would answer. Where nobody is at
+        the desk nothing may be pressed."""
+        if not by:
+            return [NOBODY] * len(asked)
+        answers = self.plant.would_all([(event, by) for event in asked])
+        return [None if is_permitted(answer) else answer for answer in answers]
+
+    # Modules.
+
+    def modules(self, modules, by):
+        docked = [{"ev": deed, "tag": each["tag"]} for each in modules for deed in DOCKED]
+        answers = iter(self.presses(docked, by))
+        return [{**self.module(each, by), "presses": {deed: next(answers) for deed in DOCKED}} for each in modules]
+
+    def module(self, module, by):
+        tag, followed = module["tag"], self.station.adapter.followed.get(module["tag"])
+        map = followed.map if followed else {"services": {}, "variables": {}}
+        package, described = self.station.packages.get(tag), self.plant.past.descriptions[tag]
+        kinds = {each["name"]: each["kind"] for each in described["variables"]}
+        return {**{key: module[key] for key in ("tag", "type", "version", "ticket", "holder", "watchers")},
+                "is_there": tag in self.station.commands.lives, "package": package, "name": map.get("name", ""),
+                "services": [self.service(tag, each, map, by) for each in module["services"]],
+                "values": [self.value(tag, each, kinds, map["variables"]) for each in module["values"]],
+                "ends": self.ends(tag, by) if module["ticket"] is not None else []}
+
+    def service(self, tag, service, map, by):
+        since = self.station.late.since.get((tag, service["name"]))
+        return {**service, "may": service["may"] if by else 0, "since": since[1] if since else None,
+                "label": map["services"].get(service["name"], {}).get("name", service["name"]),
+                "may_choose": bool(by) and self.deeds.may_choose(by, tag, service["name"])}
+
+    def value(self, tag, value, kinds, entries):
+        name, shown = value["name"], self.station.values.shown.get((tag, value["name"]))
+        entry = entries.get(name, {})
+        return {"name": name, "label": entry.get("name", name), "kind": kinds[name], "told": value["value"],
+                "value": shown.value if shown else value["value"], "is_good": shown.is_good if shown else True,
+                "unit": entry.get("unit", {}).get("text", ""), "texts": entry.get("texts", {})}
+
+    def ends(self, tag, by):
+        """How an exchange may end: by a module of each package, or by the old one."""
+        names = sorted(self.station.site.packages)
+        events = [self.deeds.end_event(tag, name) for name in names] + [self.deeds.cancel_event(tag)]
+        answers = self.presses(events, by)
+        return [{"package": name, "why": answer} for name, answer in zip([*names, None], answers)]
+
+    def absent(self, by):
+        """The tags of the site under which no module stands."""
+        tags = [tag for tag in self.station.site.modules if self.plant.module(tag) is None]
+        packages = [self.station.site.modules[tag] for tag in tags]
+        whys = self.presses(list(map(self.deeds.plug_event, tags, packages)), by)
+        return [{"tag": tag, "package": package, "why": why} for tag, package, why in zip(tags, packages, whys)]
+
+    # Batches and recipes.
+
+    def batches(self, batches, by):
+        asked = [{**event, "batch": batch["batch"]} for batch in batches for event in BATCH_DEEDS.values()]
+        answers = iter(self.presses(asked, by))
+        return [{**batch, "steps": self.steps(batch), **self.wait(batch["batch"]),
+                 "presses": {deed: next(answers) for deed in BATCH_DEEDS}} for batch in batches]
+
+    def steps(self, batch):
+        """The steps that are active, in each branch, with what was done last and what their services are in."""
+        return [self.step(batch, step, did) for step, did in self.plant.past.active.get(batch["batch"], {}).items()]
+
+    def step(self, batch, step, did):
+        found = self.plant.past.step_of(batch["batch"], step)
+        tag = batch["bind"][found["role"]]
+        view = self.plant.view(tag, found["service"])
+        return {"step": step, "did": did, "tag": tag, "service": found["service"],
+                "state": view["StateCur"] if view else None}
+
+    def wait(self, batch):
+        wait = self.station.batches.waits.get(batch)
+        return {"wait": wait.answer, "since": wait.since} if wait else {"wait": None, "since": None}
+
+    def recipes(self, state, by):
+        """Each recipe with modules on which a new batch would start, where there are some."""
+        batch = free_name({batch["batch"] for batch in state["batches"]})
+        return [self.recipe(batch, found, by) for found in self.plant.bindings()]
+
+    def recipe(self, batch, found, by):
+        """A recipe with its roles, each with the modules of its type, and one module for each: as the finder has them,
+        or else as they are found by asking, since a module that is only read may be another batch's."""
+        recipe = found["recipe"]
+        roles = [{**role, "tags": self.tags_of(role["type"])} for role in self.plant.past.roles(recipe)]
+        tried = [found["bind"]] if "bind" in found else list(itertools.islice(assignments(roles), MOST_TRIED))
+        whys = self.presses([self.deeds.start_event(batch, recipe, tags) for tags in tried], by)
+        best = next((place for place, why in enumerate(whys) if why is None), 0)
+        assigned = {role["role"]: tried[best][role["role"]] for role in roles} if tried else None
+        return {"recipe": recipe, "batch": batch, "roles": roles, "assigned": assigned,
+                "why": whys[best] if tried else SHORT}
+
+    def tags_of(self, type):
+        return [tag for tag, module in self.plant.modules().items() if module["type"] == type]
+
+    # What stands still, and what happened.
+
+    def still(self, batches, by):
+        """Alarms, and batches that don't move, the longest first."""
+        waits = [{"code": "batch", "batch": batch["batch"], **self.wait(batch["batch"])} for batch in batches]
+        still = [each for each in waits if each["wait"] and is_still(each["wait"])]
+        alarms = [{**alarm, "presses": {deed: self.why_not(deed, alarm, by) for deed in alarm.get("deeds", [])}}
+                  for alarm in self.station.alarms.shown()]
+        return sorted([*alarms, *still], key=lambda each: each["since"])
+
+    def why_not(self, deed, alarm, by):
+        """Why a person may not press this at an alarm; None where the person may."""
+        at = alarm["tag"], alarm["service"]
+        if not by:
+            return NOBODY
+        if deed not in ORDER_DEEDS:
+            return self.presses([self.station.reports.first_event(deed, *at)], by)[0]
+        if not self.deeds.may_choose(by, *at):
+            return DENIED
+        return NOTHING if deed == "again" and at[0] not in self.station.commands.lives else None
+
+    def refused(self):
+        """What was refused or denied last, the newest first."""
+        entries = [self.entry(each) for each in self.plant.past.refused]
+        both = sorted([*entries, *self.station.denied], key=lambda each: each["event"]["at"])
+        return both[::-1][:MOST_ENTRIES]
+
+    def entry(self, entry):
+        return {"place": entry.place, "event": short(entry.event), "answer": entry.answer, "by": entry.by}
+
+
+def assignments(roles):
+    """Each way to give each role a module of its own."""
+    for tags in itertools.product(*(role["tags"] for role in roles)):
+        if len(set(tags)) == len(tags):
+            yield {role["role"]: tag for role, tag in zip(roles, tags)}
+
+
+def is_still(wait):
+    """Whether a batch that waits for this stands, and isn't only on its way."""
+    if wait.get("wait") == "InState":
+        return STATE_NAMES[wait["state"]] not in MOVING
+    return wait.get("wait") != "Unmet"
+
+
+def short(event):
+    """An event without what is long in it: of a description its type and version are left."""
+    described = {"desc": {key: event["desc"][key] for key in ("type", "version")}} if "desc" in event else {}
+    return {key: part for key, part in event.items() if key not in ("chart", "roles")} | described
+
+
+def free_name(names):
+    """A name that no batch has."""
+    number = len(names) + 1
+    while f"b{number}" in names:
+        number += 1
+    return f"b{number}"

@@ -1,0 +1,75 @@
+// Elements, and how what stands on the page becomes what is to stand there: each element that has a key stays itself,
+// so that a press and the place of the keyboard aren't lost while all goes on. All text goes in as text, never as
+// markup.
+"use strict";
+const draw = (() => {
+  // The deed that was pressed once, and is done at the second press.
+  const armed = { deed: null };
+  // An element with its attributes and what is in it. What is null or empty is left out.
+  function make(name, attributes = {}, ...within) {
+    const made = document.createElement(name);
+    for (const [key, value] of Object.entries(attributes)) {
+      if (value !== null && value !== undefined && value !== false) made.setAttribute(key, value === true ? "" : value);
+    }
+    made.append(...within.filter(each => each !== null && each !== undefined && each !== ""));
+    return made;
+  }
+  const keyOf = node => (node.nodeType === Node.ELEMENT_NODE ? node.dataset.key : undefined);
+  const isAlike = (old, fresh) => old.nodeName === fresh.nodeName && keyOf(old) === keyOf(fresh);
+  function patchAttributes(old, fresh) {
+    for (const { name } of [...old.attributes]) {
+      if (!fresh.hasAttribute(name)) old.removeAttribute(name);
+    }
+    for (const { name, value } of fresh.attributes) {
+      if (old.getAttribute(name) !== value) old.setAttribute(name, value);
+    }
+  }
+  // Makes an element like another one, keeping what is alike. A field shows the value that it is to have, or else what
+  // was chosen in it.
+  function patch(old, fresh) {
+    if (old.nodeType === Node.TEXT_NODE) {
+      if (old.data !== fresh.data) old.data = fresh.data;
+      return;
+    }
+    patchAttributes(old, fresh);
+    const chosen = old.nodeName === "SELECT" ? fresh.dataset.value ?? old.value : null;
+    fill(old, [...fresh.childNodes]);
+    if (chosen !== null && [...old.options].some(option => option.value === chosen)) old.value = chosen;
+  }
+  // What is to be within an element, in this order.
+  function fill(holder, fresh) {
+    const keyed = new Map([...holder.childNodes].filter(keyOf).map(node => [keyOf(node), node]));
+    let place = holder.firstChild;
+    for (const node of fresh) {
+      const own = keyOf(node) ? keyed.get(keyOf(node)) : place && !keyOf(place) ? place : null;
+      if (own && isAlike(own, node)) {
+        patch(own, node);
+        if (own === place) place = place.nextSibling;
+        else holder.insertBefore(own, place);
+      } else {
+        holder.insertBefore(node, place);
+      }
+    }
+    while (place) {
+      const next = place.nextSibling;
+      place.remove();
+      place = next;
+    }
+  }
+  const into = (id, ...fresh) => fill(document.getElementById(id), fresh.filter(each => each));
+  // Why a press isn't permitted: the answer that it would get, and what that means.
+  function reason(why) {
+    const rule = why.rule && words.rule(why.rule, why);
+    if ("station" in why) return words.say(`station_${why.station}`, why.why ?? "");
+    return `${words.answer(why)}${rule ? `: ${rule.holds}` : ""}`;
+  }
+  // A button for a deed. It is enabled where nothing stands against it; a deed that is `sure` wants a second press.
+  function button(text, deed, why = null, { loud = false, sure = false } = {}) {
+    const asked = JSON.stringify(deed);
+    const styles = [loud ? "loud" : "", armed.deed === asked ? "sure" : ""].join(" ").trim();
+    return make("button", { type: "button", "data-key": asked, "data-deed": asked, class: styles || null,
+      disabled: why !== null, title: why === null ? null : reason(why), "data-sure": sure }, text);
+  }
+  const faint = (...within) => make("span", { class: "faint" }, ...within);
+  return { make, into, button, faint, reason, armed };
+})();

@@ -1,0 +1,60 @@
+// What stands still and why, on top; what was refused and what to do; what happened last.
+"use strict";
+const lists = (() => {
+  const { make, button } = draw;
+  // In milliseconds: a batch that waits for its service's next state stands still only after this.
+  const PATIENCE = 5000;
+  const LOUD = new Set(["restarted"]);
+  const isStill = (each, now) => each.code !== "batch" || each.wait.wait !== "InState" || now - each.since > PATIENCE;
+  // The states by which a service may have gone unseen.
+  const way = each => (each.way?.length ? ` ${words.say("statesBetween", each.way.map(words.state).join(", "))}` : "");
+  // Why something stands still: what happened, and what to look at.
+  function why(each) {
+    if (each.code !== "batch") {
+      return [words.say(`alarm_${each.code}`, each), words.say(`look_${each.code}`, each) + way(each)];
+    }
+    const wait = words.wait(each.wait.wait, each.wait), own = "denied" in each.wait ? "lookDenied" : "lookGone";
+    return [words.say("batchWaits", each.batch, words.answer(each.wait)), wait ? wait.look : words.say(own)];
+  }
+  const key = each => [each.code === "batch" ? "batch" : "alarm", each.batch, each.tag, each.service, each.variable,
+    each.recipe, each.place, each.code].join(" ");
+  function still(each) {
+    const [what, look] = why(each);
+    const deeds = (each.deeds ?? []).map(deed => button(words.say(`deed_${deed}`),
+      { do: deed, tag: each.tag, service: each.service }, each.presses[deed], { loud: LOUD.has(deed), sure: true }));
+    return make("div", { class: "alarm", "data-key": key(each) },
+      make("p", {}, make("b", {}, what), make("span", { class: "faint", "data-since": each.since })),
+      make("p", { class: "faint" }, look),
+      deeds.length ? make("div", { class: "buttons", "data-key": "deeds" }, ...deeds) : null);
+  }
+  // A refusal with who asked for what, and what to do about it.
+  function refused({ place, event, answer, by }) {
+    const rule = answer.rule && words.rule(answer.rule, answer);
+    const remedy = rule ? rule.remedy : words.say(answer.policy === undefined ? "deniedByNoneMore" : "deniedMore");
+    return make("p", { class: "row", "data-key": `${place ?? ""} ${event.at} ${JSON.stringify(event)}` },
+      make("span", { class: "no" }, `${words.event({ ...event, by })}: ${words.answer(answer)}. `),
+      `${words.say("remedy")}: ${remedy.replace(/\.$/, "")}.`);
+  }
+  // The kind of a variable, by which its value is said.
+  function kindIn(live, tag, name) {
+    const module = live.modules.find(each => each.tag === tag);
+    return module?.values.find(each => each.name === name)?.kind;
+  }
+  const last = live => ({ place, event, answer, by }) => make("p", { class: "row", "data-key": `entry ${place}` },
+    `${place + 1}: ${words.event({ ...event, by }, (tag, name) => kindIn(live, tag, name))} → ${words.answer(answer)}`);
+  const calm = said => make("p", { class: "faint" }, words.say(said));
+  // For who doesn't see it: what stands still, told where that changed.
+  function hear(text) {
+    const place = document.getElementById("heard");
+    if (place.textContent !== text) place.textContent = text;
+  }
+  function show(live, now) {
+    const all = live.still.filter(each => isStill(each, now));
+    draw.into("still-list", ...(all.length ? all.map(still) : [calm("nothingStands")]));
+    document.getElementById("still").classList.toggle("calm", all.length === 0);
+    hear(all.map(each => why(each)[0]).join(". "));
+    draw.into("refused-list", ...(live.refused.length ? live.refused.map(refused) : [calm("noRefusal")]));
+    draw.into("last-list", ...live.last.slice().reverse().map(last(live)));
+  }
+  return { show };
+})();

@@ -1,0 +1,131 @@
+// The page's beat: the stream of what there is, what a person asks for, who that is, and the language.
+"use strict";
+const page = (() => {
+  const by = id => document.getElementById(id);
+  // In milliseconds: how long a deed that wants a second press waits for it, and how long an answer is shown.
+  const SURE = 5000, SHOWN = 9000, BEAT = 1000, SILENCE = 16000;
+  const state = { live: null, ahead: 0, heard: 0, stream: null, person: localStorage.person ?? "" };
+  const now = () => Date.now() + state.ahead;
+
+  // Asking.
+  function say(text) {
+    by("said").textContent = text;
+    by("said").hidden = false;
+    clearTimeout(state.saying);
+    state.saying = setTimeout(() => { by("said").hidden = true; }, SHOWN);
+  }
+  function told(answer) {
+    const rule = answer.rule && words.rule(answer.rule, answer);
+    return rule ? `${words.answer(answer)}. ${words.say("remedy")}: ${rule.remedy}` : draw.reason(answer);
+  }
+  async function give(deed) {
+    const body = JSON.stringify({ ...deed, by: state.person });
+    const given = await fetch("do", { method: "POST", headers: { "Content-Type": "application/json" }, body });
+    if (!given.ok) throw new Error(String(given.status));
+    return given.json();
+  }
+  async function ask(deed) {
+    try {
+      say(`${words.say("youAsked", words.say(`deed_${deed.do}`))}: ${told(await give(deed))}`);
+    } catch (fault) {
+      say(words.say("noAnswerCame", fault.message));
+    }
+  }
+  // Why a start wouldn't be permitted now; null where it would.
+  async function would(deed) {
+    try {
+      const answer = await give({ ...deed, do: "would" }), said = answer.would ?? answer;
+      return "done" in said ? null : said;
+    } catch {
+      return { station: "asking" };
+    }
+  }
+  // A press. One that wants to be sure is done at the second press.
+  function press(button) {
+    const { deed } = button.dataset, isFirst = button.dataset.sure !== undefined && draw.armed.deed !== deed;
+    arm(isFirst ? deed : null);
+    if (isFirst) say(words.say("pressAgain", button.textContent));
+    else ask(JSON.parse(deed));
+  }
+  function arm(deed) {
+    clearTimeout(state.armed);
+    draw.armed.deed = deed;
+    if (deed) state.armed = setTimeout(() => arm(null), SURE);
+    show();
+  }
+
+  // Drawing.
+  const clock = () => (words.isGerman() ? "de" : "en-GB");
+  function since() {
+    for (const each of document.querySelectorAll("[data-since]")) {
+      const since = Number(each.dataset.since), lasted = words.lasted(since, now()) || "0 s";
+      each.textContent = words.say("sinceWhen", new Date(since).toLocaleTimeString(clock()), lasted);
+    }
+  }
+  function link() {
+    const isOld = Date.now() - state.heard > SILENCE || state.stream?.readyState !== EventSource.OPEN;
+    by("link").classList.toggle("old", isOld);
+    by("link").textContent = words.say(isOld ? "isOld" : "isLive");
+  }
+  function people() {
+    const names = [...new Set([...(state.live?.people ?? []), ...(state.person ? [state.person] : [])])];
+    const options = names.map(name => draw.make("option", { value: name, "data-key": name }, name));
+    draw.into("by", draw.make("option", { value: "", "data-key": "-" }, words.say("nobody")), ...options);
+    by("by").value = state.person;
+    by("hint").hidden = state.person !== "";
+  }
+  function show() {
+    for (const each of document.querySelectorAll("[data-say]")) each.textContent = words.say(each.dataset.say);
+    document.documentElement.lang = words.isGerman() ? "de" : "en";
+    document.title = words.say("plantNow");
+    people();
+    link();
+    if (!state.live) return;
+    by("counts").textContent = words.say("entriesOf", words.number(state.live.entries));
+    modules.show(state.live);
+    batches.show(state.live);
+    lists.show(state.live, now());
+    since();
+    document.body.dataset.ready = "yes";
+  }
+
+  // The stream.
+  function listen() {
+    state.stream?.close();
+    state.stream = new EventSource(`live?by=${encodeURIComponent(state.person)}`);
+    state.stream.addEventListener("message", told => {
+      state.live = JSON.parse(told.data);
+      state.ahead = state.live.now - Date.now();
+      state.heard = Date.now();
+      show();
+    });
+    state.stream.addEventListener("beat", () => { state.heard = Date.now(); link(); });
+    state.stream.addEventListener("open", () => { state.heard = Date.now(); link(); });
+    state.stream.addEventListener("error", link);
+  }
+  function choosePerson() {
+    state.person = localStorage.person = by("by").value;
+    listen();
+  }
+  function language(isGerman) {
+    words.set(isGerman);
+    localStorage.german = isGerman ? "yes" : "";
+    show();
+  }
+  document.addEventListener("click", event => {
+    const button = event.target.closest("button[data-deed]");
+    if (button && !button.disabled) press(button);
+  });
+  document.addEventListener("change", event => {
+    const { recipe, tag } = event.target.dataset;
+    if (recipe !== undefined) batches.choose(event.target);
+    if (tag !== undefined) modules.choose(event.target);
+    show();
+  });
+  by("by").addEventListener("change", choosePerson);
+  by("language").addEventListener("click", () => language(!words.isGerman()));
+  setInterval(() => { link(); since(); if (state.live) lists.show(state.live, now()); since(); }, BEAT);
+  language(localStorage.german === undefined ? navigator.language.startsWith("de") : localStorage.german === "yes");
+  listen();
+  return { would, show, state };
+})();
