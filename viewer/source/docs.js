@@ -157,7 +157,7 @@ const docs = {
       "number": 26,
       "star": true,
       "holds": "128 batches were started",
-      "remedy": "begin a new journal once the open batches are closed"
+      "remedy": "forget the batches that are closed: ./renew does that with a kept plant"
     },
     NotAtRest: {
       "number": 27,
@@ -229,7 +229,7 @@ const docs = {
       "number": 38,
       "star": true,
       "holds": "the history has 200,000 entries; the event is then not recorded",
-      "remedy": "the history takes nothing more, a stop or an abandon neither: see how long a journal lasts"
+      "remedy": "the history takes nothing more, a stop or an abandon neither. A kept plant goes on behind ./renew, with its open batches; else see how long a journal lasts"
     },
     Watched: {
       "number": 39,

@@ -70,7 +70,7 @@ const german = {
       + "Rollen",
       "auf die andere Charge warten, oder ein anderes Modul binden", "f5d13c08"],
     BatchesFull: ["128 Chargen wurden gestartet",
-      "ein neues Journal beginnen, sobald die offenen Chargen geschlossen sind", "975e02b4"],
+      "die geschlossenen Chargen vergessen: das tut ./renew mit einer gespeicherten Anlage", "7df3a991"],
     NotAtRest: ["dieser Dienst wurde zuletzt in einem anderen Zustand als Idle, Completed, Stopped, Aborted gemeldet; "
       + "der erste solche in der Reihenfolge der Beschreibung",
       "den Dienst vor dem Tausch fertig werden lassen oder stoppen", "1cf64946"],
@@ -101,8 +101,8 @@ const german = {
     RecipesFull: ["64 Rezepte sind bekannt",
       "ein neues Journal beginnen, sobald die offenen Chargen geschlossen sind", "a154f6b2"],
     HistoryFull: ["die Historie hat 200.000 Einträge; das Ereignis wird dann nicht aufgezeichnet",
-      "die Historie nimmt nichts mehr an, auch kein Stoppen und kein Aufgeben: siehe, wie lange ein Journal reicht",
-      "537c47aa"],
+      "die Historie nimmt nichts mehr an, auch kein Stoppen und kein Aufgeben. Eine gespeicherte Anlage geht hinter "
+      + "./renew weiter, mit ihren offenen Chargen; sonst siehe, wie lange ein Journal reicht", "f8ea0c8f"],
     Watched: ["keine Charge belegt das Modul, und diese offene Charge beobachtet es; die erste solche in der "
       + "Reihenfolge der Starts",
       "das Ende der genannten Charge abwarten, sie stoppen oder aufgeben, oder das Modul tauschen", "248bc296"],
