@@ -58,8 +58,8 @@ abbrev pub of_put : PutFault → ExtractFault
 of_put of_output.Write = Write
 of_put of_output.Memory = Memory
 
--- How a job ended that reads a ledger from a source and writes its journal, by its source and its sink before and after,
--- and that the sink is just what it was: for each result what was written, and what causes it.
+-- How a job ended that reads a ledger from a source and writes its journal, by its source and its sink before and
+-- after, and that the sink is just what it was: for each result what was written, and what causes it.
 abbrev pub ExtractEnds : Extent → Edge → Edge → Edge → Edge → Type 0 → Result (Unit {0}) ExtractFault → Type 0
 ExtractEnds extent source source' sink sink' Unwritten (Ok done) =
     Between (Extracts extent sink.bytes sink'.bytes) source.bytes source'.bytes

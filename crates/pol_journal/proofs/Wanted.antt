@@ -34,7 +34,8 @@ none_flagged [] = refl
 none_flagged (flag ∷ flags) = refl
 
 -- where the first flag isn't up, the first entry is passed
-passed : (flags : List Bool) (entries : List PlainEntry) → flagged (false ∷ flags) entries ≡ flagged flags (drop 1 entries)
+passed : (flags : List Bool) (entries : List PlainEntry) →
+    flagged (false ∷ flags) entries ≡ flagged flags (drop 1 entries)
 passed flags [] = sym (none_flagged flags)
 passed flags (entry ∷ entries) = refl
 
@@ -90,13 +91,14 @@ pub many_flags : (whole older : History) (entries : List PlainEntry) →
 many_flags whole older [] = refl
 many_flags whole older (entry ∷ entries) = ap (λ many. suc many) (many_flags whole (entry ∷ older) entries)
 
--- the events of a history, in order
+-- what is said of each item in reverse is what is said of each, in reverse
 map_reverse : {A B : Type 0} (f : A → B) (items : List A) → map f (reverse items) ≡ reverse (map f items)
 map_reverse f [] = refl
 map_reverse f (item ∷ items) =
     ap (map f) (reverse-append (item ∷ []) items) ∙ map-append f (reverse items) (item ∷ [])
     ∙ ap (λ front. front ++ f item ∷ []) (map_reverse f items) ∙ sym (reverse-append (f item ∷ []) (map f items))
 
+-- the events of the entries in order are those of their history
 in_order : (history : List Entry) → map event (map plain_entry history) ≡ events_of (plain_history history)
 in_order history =
     ap (map event) (sym (reverse-reverse (map plain_entry history)))
