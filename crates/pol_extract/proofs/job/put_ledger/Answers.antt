@@ -10,8 +10,8 @@ use Rattle.pol_extract.proofs.Extracted.{no_events, plant_events}
 use Rattle.pol_extract.proofs.job.put_ledger.Goals as goal
 use Rattle.pol_extract.proofs.job.put_ledger.Goals.{then-is_begun, else-is_begun}
 
-pub returns-clause-text : goal.returns-clause-text
-returns-clause-text g c =
+pub returns : goal.returns
+returns g c =
     let k = g.K.Sink in
     let ledger = c.args.ledger.now in
     let same : events_of (plain_history c.if-is_begun.history.now) ≡ ledger_events (ledger_state ledger) =
@@ -20,19 +20,12 @@ returns-clause-text g c =
           (plant_events ledger (sym c.is_begun.ensures ∙ w.if-is_begun.true) w.plant.ensures.names)
       | else-is_begun w ↦ rw w.history-is (sym (no_events ledger (sym c.is_begun.ensures ∙ w.if-is_begun.false)))
     ] in
-    subst (λ (events : List PlainEvent). OnOk c.put_journal.result (Appends (k.held c.args.sink.now)
-    (k.held c.put_journal.new.sink) (journal_text (journal_events c.args.extent events)))) same
-    c.put_journal.ensures.text
-
-pub returns-clause-part : goal.returns-clause-part
-returns-clause-part g c =
-    let k = g.K.Sink in
-    let ledger = c.args.ledger.now in
-    let same : events_of (plain_history c.if-is_begun.history.now) ≡ ledger_events (ledger_state ledger) =
-    elim c.if-is_begun.branch [
-      | then-is_begun w ↦ rw (w.history-is, w.history-history.ensures.entries, w.plant.ensures.plant)
-          (plant_events ledger (sym c.is_begun.ensures ∙ w.if-is_begun.true) w.plant.ensures.names)
-      | else-is_begun w ↦ rw w.history-is (sym (no_events ledger (sym c.is_begun.ensures ∙ w.if-is_begun.false)))
-    ] in
-    subst (λ (events : List PlainEvent). OnErr c.put_journal.result (StopsWithin k.held c.args.sink.now
-    c.put_journal.new.sink (journal_text (journal_events c.args.extent events)))) same c.put_journal.ensures.part
+    record {
+      text = subst (λ (events : List PlainEvent). OnOk c.put_journal.result (Appends (k.held c.args.sink.now)
+          (k.held c.put_journal.new.sink) (journal_text (journal_events c.args.extent events)))) same
+          c.put_journal.ensures.text;
+      part = subst (λ (events : List PlainEvent). OnErr c.put_journal.result (StopsWithin k.held c.args.sink.now
+          c.put_journal.new.sink (journal_text (journal_events c.args.extent events)))) same
+          c.put_journal.ensures.part;
+      cause = c.put_journal.ensures.cause;
+    }
