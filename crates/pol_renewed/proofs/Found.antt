@@ -1,7 +1,7 @@
 -- Two plants that are alike have the same candidates and recipes.
 use Rattle.std.proofs.Common.{ℕ, ◌≡◌, inl, inr, Bool, true, false, cond, List, [], ◌∷◌, ◌++◌, map, reverse, Option}
 use Rattle.std.proofs.Common.{None, Some, refl, sym, ap, subst, ◌∙◌, append-nil}
-use Rattle.std.specs.Prelude.{◌&&◌, codes, filter, filter_map, is_none, if◌then◌else◌}
+use Rattle.std.specs.Prelude.{◌&&◌, codes, filter_map, is_none, if◌then◌else◌}
 use Rattle.std.specs.List.{cons_option}
 use Rattle.std.specs.Option.{option_map}
 use Rattle.std.proofs.lemmas.List.{reverse-append}
@@ -24,6 +24,7 @@ use Rattle.pol_compaction.specs.Lasting.{closed_batches}
 use Rattle.pol_compaction.specs.Law.{entries_after}
 use Rattle.pol_compaction.proofs.Later.{later_runs}
 use Rattle.pol_compaction.proofs.Law.{all_alike}
+use Rattle.pol_runs.proofs.Wanted.{filter_same}
 use Rattle.pol_find.specs.Bindings.{bindings_text, told_of_each}
 use Rattle.pol_find.specs.Candidates.{candidate_of, candidate_with, candidates_of, idle_services, is_docked}
 use Rattle.pol_find.specs.Candidates.{is_free, is_idle_at, is_seen_idle}
@@ -35,15 +36,7 @@ use Rattle.pol_renewed.specs.Renewed.{CompactionFindsAlike, FindsSame, renewed_a
 
 -- ---- lists
 
--- what passes one test passes another that tells the same
-filter_same : {A : Type 0} (one other : A → Bool) → ((item : A) → one item ≡ other item) → (items : List A) →
-    filter one items ≡ filter other items
-filter_same one other same [] = refl
-filter_same one other same (item ∷ items) =
-    ap (λ passes. cond passes (item ∷ filter one items) (filter one items)) (same item)
-    ∙ ap (λ rest. cond (other item) (item ∷ rest) rest) (filter_same one other same items)
-
--- and so what one says of each
+-- what one says of each item is what another says that says the same
 filter_map_same : {A B : Type 0} (one other : A → Option B) → ((item : A) → one item ≡ other item) →
     (items : List A) → filter_map one items ≡ filter_map other items
 filter_map_same one other same [] = refl
@@ -80,8 +73,8 @@ module _ (whole less : History) (tag : List ℕ) (looks : LooksSame (past tag wh
   with_same None = refl
   with_same (Some description) =
       ap (λ idle. Some (candidate description idle))
-      (filter_same (is_idle_at less tag) (is_idle_at whole tag) idle_same
-      (map (λ service. service.name) description.services))
+      (filter_same (is_idle_at less tag) (is_idle_at whole tag) (map (λ service. service.name) description.services)
+      (λ service inside. idle_same service))
     where
       candidate : PlainDescription → List (List ℕ) → PlainCandidate
       candidate description idle = record { tag = tag; description = description; idle = idle }
