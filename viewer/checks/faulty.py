@@ -1,4 +1,6 @@
 """Verdicts, files at fault, forged lines and hostile texts: each is told, and what could be read is drawn."""
+import hashlib
+
 import made
 
 SEAL = "document.getElementById('seal').className"
@@ -28,6 +30,26 @@ def check_verdicts(checks):
     checks.says('which says where and what', 'seal', 'entry 11 of 113', 'refused: ModeForbids')
     checks.gives('its place is in the list', "page.state.history.alarms.find(each => each.key === 'auditHere').at", 10)
     check_other_verdicts(checks)
+    check_named(checks)
+
+
+def check_named(checks):
+    """What the job attest writes tells its file, and is shown for that file alone."""
+    history = checks.example('site.history.jsonl').read_bytes()
+    other, good = history.replace(b'"at":', b'"at": ', 1), '{"audit":"good","entries":113}\n'
+    bad = '{"audit":"bad","place":113,"why":"Tail"}\n'
+    for data, verdict, style in ((history, good, 'good'), (history, bad, 'bad'), (other, good, 'none')):
+        read = '{"bytes":%d,"sha256":"%s"}\n' % (len(data), hashlib.sha256(data).hexdigest())
+        checks.open(checks.example('site.history.jsonl'), checks.kept('attest', verdict + read))
+        checks.gives('a verdict that names its file is %s' % style, SEAL, style)
+        if style == 'none':
+            checks.says('and one of another file is told', 'faults', "that isn't here", "isn't shown")
+        else:
+            checks.says('and the seal says of which', 'seal', 'of site.history.jsonl, whose size and SHA-256')
+    checks.open(checks.example('site.history.jsonl'), checks.data('blend.answers'), checks.example('blend.jsonl'),
+                checks.kept('attest', good + '{"bytes":%d,"sha256":"%s"}\n'
+                            % (len(history), hashlib.sha256(history).hexdigest())))
+    checks.gives('nor is it shown where more came along than its file', SEAL, 'none')
 
 
 def check_other_verdicts(checks):

@@ -133,6 +133,10 @@ const labels = {
     "laut der Urteilszeile, die keine Datei nennt; diese Seite prüft nichts"],
   namesNoFile: ["The verdict names no file: whoever signs has to know that it is of this one.",
     "Das Urteil nennt keine Datei: wer unterschreibt, muss wissen, dass es dieser gilt."],
+  sealOf: ["of {0}, whose size and SHA-256 it tells; this page compared them, and checks nothing else",
+    "über {0}, deren Größe und SHA-256 es nennt; diese Seite verglich sie und prüft sonst nichts"],
+  namesFile: ["The verdict is of the file {0}, with the SHA-256 {1}.",
+    "Das Urteil gilt der Datei {0} mit der SHA-256 {1}."],
   sealMissing: ["no verdict of the job audit stands in the files", "in den Dateien steht kein Urteil von audit"],
   goodWords: ["The job audit found {0} entries true: each answer is the one that looking back in the history gives, "
     + "and the batch lines follow.",
@@ -140,6 +144,10 @@ const labels = {
     + "die Zeilen der Chargen folgen."],
   otherLength: ["A verdict of {0} came along; here are {1}. It is of another file, and isn't shown.",
     "Ein Urteil über {0} ist dabei; hier sind {1}. Es gilt einer anderen Datei und wird nicht gezeigt."],
+  otherSum: ["A verdict came along over a file of {0} bytes that isn't here, or isn't all of what is here; "
+    + "it isn't shown.",
+    "Ein Urteil über eine Datei von {0} Bytes ist dabei, die nicht hier ist oder nicht alles ist, was hier ist; "
+    + "es wird nicht gezeigt."],
   otherPlace: ["A verdict came along that finds entry {0} wrong; here are {1}. It is of another file, and isn't shown.",
     "Ein Urteil ist dabei, nach dem Eintrag {0} falsch ist; hier sind {1}. Es gilt einer anderen Datei und wird nicht "
     + "gezeigt."],

@@ -30,6 +30,7 @@ const lines = (() => {
     if (isObject(value.event) && isObject(value.answer)) return "entry";
     if ("ev" in value) return "event";
     if ("audit" in value) return "verdict";
+    if ("sha256" in value && "bytes" in value) return "read";
     if (value.end === true) return "end";
     if ("answers" in value) return "summary";
     if (Array.isArray(value.log) && "outcome" in value) return "batch";
@@ -41,7 +42,7 @@ const lines = (() => {
     if ("recipe" in value && (isObject(value.bind) || Array.isArray(value.short))) return "binding";
     return ANSWERS.some(key => key in value) ? "answer" : "fault";
   }
-  const OUTPUT = new Set(["answer", "batch", "binding", "end", "verdict", "opened"]);
+  const OUTPUT = new Set(["answer", "batch", "binding", "end", "verdict", "read", "opened"]);
   // Columns of places: an entry's event and its answer stand in a file from one sign to another, in a line.
   class Places {
     constructor() { Object.assign(this, { file: [], from: [], to: [], line: [] }); }
@@ -170,6 +171,7 @@ const lines = (() => {
     else if (kind === "binding" || (kind === "end" && "bad" in value)) found.bound(value);
     else if (kind === "end") found.ends += 1;
     else if (kind === "verdict") found.verdicts.push(value);
+    else if (kind === "read" && found.verdicts.length) found.verdicts.at(-1).read = value;
     else {
       const why = kind === "summary" ? kind : value === undefined ? "notJson" : "unknownForm";
       found.fault(file, line, why, from, to);

@@ -3,17 +3,22 @@
 "use strict";
 const seal = (() => {
   const WHY = { Answer: "whyAnswer", TooMany: "whyTooMany", Tail: "whyTail" };
-  function good({ entries }) {
-    const inWords = `${words.say("goodWords", words.number(entries))} ${words.say("namesNoFile")}`;
-    return { style: "good", short: `${words.say("auditGood")} · ${words.many("Entries", entries)}`,
-      more: words.say("sealMore"), inWords };
+  // Of which file a verdict is, short and as a sentence.
+  function named(verdict, found) {
+    const file = verdicts.file(verdict, found);
+    return file ? [words.say("sealOf", file.name), words.say("namesFile", file.name, verdict.read.sha256)]
+      : [words.say("sealMore"), words.say("namesNoFile")];
   }
-  function bad({ why: name, place, says }, { entries }) {
+  function good({ entries }, [more, sentence]) {
+    const inWords = `${words.say("goodWords", words.number(entries))} ${sentence}`;
+    return { style: "good", short: `${words.say("auditGood")} · ${words.many("Entries", entries)}`, more, inWords };
+  }
+  function bad({ why: name, place, says }, { entries }, [of, sentence]) {
     const why = words.say(Object.hasOwn(WHY, name) ? WHY[name] : "unlike");
     const where = words.say("entryOf", words.number(Number(place) + 1), words.number(entries));
     const more = why + (says ? `; ${words.say("shouldBe", words.answer(says))}` : "");
-    return { style: "bad", short: `${words.say("auditBad")} · ${where}`, more: `${more} (${words.say("sealMore")})`,
-      inWords: `${words.say("auditBad")}, ${where}: ${more}. ${words.say("namesNoFile")}` };
+    return { style: "bad", short: `${words.say("auditBad")} · ${where}`, more: `${more} (${of})`,
+      inWords: `${words.say("auditBad")}, ${where}: ${more}. ${sentence}` };
   }
   // Why verdicts that came along aren't shown.
   function unlike(found, history) {
@@ -22,7 +27,8 @@ const seal = (() => {
   }
   function told(found, history) {
     const verdict = verdicts.own(found, history), missing = words.say("sealMissing");
-    if (verdict) return verdict.audit === "good" ? good(verdict) : bad(verdict, history);
+    if (verdict?.audit === "good") return good(verdict, named(verdict, found));
+    if (verdict) return bad(verdict, history, named(verdict, found));
     const more = [...unlike(found, history), missing][0];
     return { style: "none", short: words.say("notAudited"), more, inWords: more };
   }

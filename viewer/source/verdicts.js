@@ -1,5 +1,6 @@
-// Which verdict of an audit is shown: its line names no file, so one counts only where it can be of the history that
-// the files hold. A good one tells a number of entries; a bad one a place, and for a wrong answer what it should be.
+// Which verdict of an audit is shown. That of the job attest tells the size and the checksum of the file that it is of,
+// and is shown for that file alone. The line of the job audit names no file, so it counts where it can be of the history
+// that the files hold: a good one tells a number of entries; a bad one a place, and for a wrong answer what it should be.
 // Believes the verdict and checks nothing else. Knows nothing of how it is shown.
 "use strict";
 const verdicts = (() => {
@@ -11,9 +12,15 @@ const verdicts = (() => {
     if (typeof value !== "object" || value === null) return value;
     return Object.fromEntries(Object.keys(value).sort().map(key => [key, sorted(value[key])]));
   }
+  // The file that a verdict tells it is of, where it stands here and all entries do.
+  function file({ read }, found) {
+    const at = found.files.findIndex(({ size, sum }) => sum !== null && sum === read?.sha256 && size === read.bytes);
+    return at >= 0 && found.lead.length === 0 && found.whole.file.every(each => each === at) ? found.files[at] : null;
+  }
   // Why a verdict can't be of these files, as a key of the labels with its values; null where it can.
   function doubt(verdict, found, history) {
     const { entries } = history, place = Number(verdict.place);
+    if (verdict.read && file(verdict, found) === null) return ["otherSum", verdict.read.bytes];
     if (found.length && !(found.hasAnswers && found.hasEvents)) return ["otherKind"];
     if (verdict.audit === "good" && Number.isInteger(verdict.entries)) {
       return verdict.entries === entries ? null : ["otherLength", verdict.entries, entries];
@@ -33,5 +40,5 @@ const verdicts = (() => {
   // Why each of the others isn't.
   const others = (found, history) => found.verdicts.map(each => doubt(each, found, history))
     .filter(each => each !== null);
-  return { own, others };
+  return { own, others, file };
 })();
