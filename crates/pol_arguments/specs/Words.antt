@@ -8,7 +8,7 @@ use Rattle.clap.specs.Simple.{on_top}
 use Rattle.clap.specs.declared.builder.action.ArgAction.TheVariants.{Set}
 use Rattle.pol_arguments.specs.declared.JobForm.{JobForm}
 use Rattle.pol_arguments.specs.declared.JobForm.TheVariants.{Alone, Seeded, Watched}
-use Rattle.pol_arguments.specs.declared.SerialTask.TheVariants.{Replay, Demo, Audit, Find, Guard, Migrate}
+use Rattle.pol_arguments.specs.declared.SerialTask.TheVariants.{Replay, Demo, Audit, Attest, Find, Guard, Migrate}
 use Rattle.pol_arguments.specs.declared.TheConstants.{MOST_WATCHERS}
 use Rattle.pol_arguments.specs.declared.Task.{Task}
 use Rattle.pol_arguments.specs.declared.Task.TheVariants.{Serial, Live, Keep, Export, Compact, Operate}
@@ -36,6 +36,7 @@ job_words =
     (codes "replay", Alone (Serial Replay))
     ∷ (codes "demo", Seeded)
     ∷ (codes "audit", Alone (Serial Audit))
+    ∷ (codes "attest", Alone (Serial Attest))
     ∷ (codes "find", Alone (Serial Find))
     ∷ (codes "guard", Alone (Serial Guard))
     ∷ (codes "migrate", Alone (Serial Migrate))

@@ -24,6 +24,8 @@ pub enum SerialTask {
     Demo(u32),
     /// `--job audit`: read what the plant prints, and say whether it is a true history.
     Audit,
+    /// `--job attest`: an audit that tells which bytes it read.
+    Attest,
     /// `--job find`: answer a journal in silence, and say how each recipe could be bound then.
     Find,
     /// `--job guard`: answer each line of a journal whose desk lines name who asks, under a written policy.
@@ -159,6 +161,7 @@ fn form_of(word: Option<&str>) -> Option<JobForm>
         "replay" => Some(JobForm::Alone(Task::Serial(SerialTask::Replay))),
         "demo" => Some(JobForm::Seeded),
         "audit" => Some(JobForm::Alone(Task::Serial(SerialTask::Audit))),
+        "attest" => Some(JobForm::Alone(Task::Serial(SerialTask::Attest))),
         "find" => Some(JobForm::Alone(Task::Serial(SerialTask::Find))),
         "guard" => Some(JobForm::Alone(Task::Serial(SerialTask::Guard))),
         "migrate" => Some(JobForm::Alone(Task::Serial(SerialTask::Migrate))),

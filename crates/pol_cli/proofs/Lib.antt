@@ -5,6 +5,7 @@ pub mod SiteTexts
 pub mod EntryLines
 pub mod PlantEnding
 pub mod Auditing
+pub mod Attesting
 pub mod Told
 pub mod Keeping
 pub mod Unsaid

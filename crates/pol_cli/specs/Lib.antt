@@ -4,6 +4,7 @@ pub mod Tasks
 pub mod SiteTexts
 pub mod SiteRuns
 pub mod Audits
+pub mod Attests
 pub mod Keeping
 pub mod Operating
 pub mod Worked

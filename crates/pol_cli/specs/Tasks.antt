@@ -9,13 +9,14 @@ use Rattle.pol_events.specs.Events.{PlainEvent}
 use Rattle.pol_io.specs.Known.{Between}
 use Rattle.pol_arguments.specs.Words.{Means}
 use Rattle.pol_arguments.specs.declared.SerialTask.{SerialTask}
-use Rattle.pol_arguments.specs.declared.SerialTask.TheVariants.{Replay, Demo, Audit, Find, Guard, Migrate}
+use Rattle.pol_arguments.specs.declared.SerialTask.TheVariants.{Replay, Demo, Audit, Attest, Find, Guard, Migrate}
 use Rattle.pol_arguments.specs.declared.Task.{Task}
 use Rattle.pol_arguments.specs.declared.Task.TheVariants.{Serial, Live, Keep, Export, Compact, Operate}
 use Rattle.pol_demo.specs.Summary.{demo_output}
 use Rattle.pol_jobs.specs.Ends.{Completes, Ends}
 use Rattle.pol_jobs.specs.LineWork.{Output, texts_of}
 use Rattle.pol_jobs.specs.declared.fault.JobFault.{JobFault}
+use Rattle.pol_cli.specs.Attests.{attested}
 use Rattle.pol_cli.specs.Audits.{AuditTheorem, audited}
 use Rattle.pol_find.specs.Finding.{found}
 use Rattle.pol_find.specs.Starts.{BindingsStart}
@@ -79,6 +80,13 @@ pub record DemoEnds (seed : ℕ) (source sink : Edges) (status : Status) : Type 
 pub record AuditEnds (source sink : Edges) (status : Status) : Type 0 where
   -- its output is the verdict over its input
   pub job : JobEnds audited no_refusal source sink status
+  -- whatever the input: where the verdict is good, it spells a true history
+  pub audits : (bytes : List ℕ) → AuditTheorem bytes
+
+-- how an audit ended that tells which bytes it read
+pub record AttestEnds (source sink : Edges) (status : Status) : Type 0 where
+  -- its output is the verdict over its input, and the size and the checksum of the input
+  pub job : JobEnds attested no_refusal source sink status
   -- whatever the input: where the verdict is good, it spells a true history
   pub audits : (bytes : List ℕ) → AuditTheorem bytes
 
@@ -219,6 +227,7 @@ abbrev pub SerialEnds : SerialTask → Edges → Edges → Status → Type 0
 SerialEnds Replay source sink status = JobEnds replayed no_refusal source sink status
 SerialEnds (Demo seed) source sink status = DemoEnds seed source sink status
 SerialEnds Audit source sink status = AuditEnds source sink status
+SerialEnds Attest source sink status = AttestEnds source sink status
 SerialEnds Find source sink status = FindEnds source sink status
 SerialEnds Guard source sink status = GuardEnds source sink status
 SerialEnds Migrate source sink status = MigrationEnds source sink status

@@ -4,6 +4,7 @@ ghost use Rattle.pol_cli.specs.Journal.{JournalTheorem, Laws};
 ghost use Rattle.pol_cli.specs.Tasks.{SerialEnds};
 ghost use Rattle.pol_cli.specs.Worked.{edges};
 
+mod attesting;
 mod auditing;
 mod demo;
 mod exporting;
@@ -14,6 +15,7 @@ mod site_text;
 
 use crate::laws::laws_hold;
 use crate::status::{Status, Wanted, status_of, status_wanting};
+use attesting::attest;
 use auditing::Auditing;
 use demo::demonstrate;
 pub use exporting::export;
@@ -31,7 +33,7 @@ use std::alloc::Global;
 
 /// Does the task. A replay answers each line of the source, and then writes the line of each batch and the end line. A
 /// demo answers a journal of its own, and writes how many answers there were; the source isn't read. An audit reads
-/// what the plant prints, and writes whether it is a true history. A finder answers the journal in silence, and writes
+/// what the plant prints, and writes whether it is a true history; one that attests writes too which bytes it read. A finder answers the journal in silence, and writes
 /// for each recipe how it could be bound then. A guard answers a journal under the policy in its first line. A
 /// migration writes a journal of version 1 as one of version 2. It waits for nobody and always returns.
 pub fn serve<S: Source, K: Sink>(
@@ -50,6 +52,7 @@ pub fn serve<S: Source, K: Sink>(
         SerialTask::Replay => status_of(work(alloc, &mut Replay::new(alloc), source, sink)),
         SerialTask::Demo(seed) => status_of(demonstrate(alloc, *seed, sink)),
         SerialTask::Audit => status_of(work(alloc, &mut Auditing::new(alloc), source, sink)),
+        SerialTask::Attest => status_of(attest(alloc, source, sink)),
         SerialTask::Find => status_of(work(alloc, &mut Finding::new(alloc), source, sink)),
         SerialTask::Guard => status_wanting(
             Wanted::Policy,

@@ -24,11 +24,11 @@ use Rattle.pol_ledger.specs.Work.{BegunLedger, items_of, ledger_work}
 use Rattle.pol_ledger.proofs.Taking.{many_events}
 use Rattle.pol_extract.specs.Extracts.{Extracts, ExtractEnds, ExtractsPart, GivesNoLedger, IsJournal, IsUnread}
 use Rattle.pol_extract.specs.Extracts.{ledger_events, of_put, of_read}
-use Rattle.pol_extract.specs.Streams.{IsAll}
+use Rattle.pol_stream.specs.Streams.{IsAll}
 use Rattle.pol_extract.specs.declared.fault.ExtractFault.{ExtractFault}
 use Rattle.pol_extract.specs.declared.fault.ExtractFault.TheVariants.{Read, Write, Memory, NotALedger}
-use Rattle.pol_extract.specs.declared.stream.ReadFault.{ReadFault}
-use Rattle.pol_extract.specs.declared.stream.ReadFault.TheVariants as of_source
+use Rattle.pol_stream.specs.declared.more.ReadFault.{ReadFault}
+use Rattle.pol_stream.specs.declared.more.ReadFault.TheVariants as of_source
 
 -- ---- the events of a ledger
 

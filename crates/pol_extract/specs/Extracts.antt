@@ -15,8 +15,8 @@ use Rattle.pol_ledger.specs.Items.{PlainAsked}
 use Rattle.pol_ledger.specs.Work.{BegunLedger, items_of, ledger_work}
 use Rattle.pol_extract.specs.declared.fault.ExtractFault.{ExtractFault}
 use Rattle.pol_extract.specs.declared.fault.ExtractFault.TheVariants.{Read, Write, Memory, NotALedger}
-use Rattle.pol_extract.specs.declared.stream.ReadFault.{ReadFault}
-use Rattle.pol_extract.specs.declared.stream.ReadFault.TheVariants as of_source
+use Rattle.pol_stream.specs.declared.more.ReadFault.{ReadFault}
+use Rattle.pol_stream.specs.declared.more.ReadFault.TheVariants as of_source
 
 -- the events of a ledger, in order; where none was begun there is none
 abbrev pub ledger_events : Option BegunLedger → List PlainEvent

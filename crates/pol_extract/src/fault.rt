@@ -2,8 +2,8 @@
 ghost use Rattle.std.specs.Prelude.{◌≡◌};
 ghost use Rattle.pol_extract.specs.Extracts.{of_put, of_read};
 
-use crate::stream::ReadFault;
 use pol_jobs::PutFault;
+use pol_stream::ReadFault;
 
 /// Why the journal of a ledger isn't written, or not to its end.
 #[derive(Clone, Copy, Debug, PartialEq, Eq)]

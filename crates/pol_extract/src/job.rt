@@ -10,13 +10,13 @@ ghost use Rattle.pol_ledger.specs.Work.{items_of, ledger_work};
 ghost use Rattle.pol_extract.specs.Extracts.{ExtractEnds, IsUnread, ledger_events};
 
 use crate::fault::ExtractFault;
-use crate::stream::read_to_end;
 use pol_events::Entry;
 use pol_io::{Sink, Source};
 use pol_jobs::PutFault;
 use pol_journal::{Extent, put_journal};
 use pol_kept::{OpenFault, read_image};
 use pol_ledger::Ledger;
+use pol_stream::read_to_end;
 use std::alloc::Global;
 
 // The ledger that some bytes stand for.

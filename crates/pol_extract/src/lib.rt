@@ -11,8 +11,6 @@
 
 mod fault;
 mod job;
-mod stream;
 
 pub use fault::ExtractFault;
 pub use job::extract;
-pub use stream::{ReadFault, read_to_end};

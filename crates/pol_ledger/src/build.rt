@@ -8,10 +8,11 @@ use std::marker::Model;
 /// Names this build of the program.
 pub const THIS_BUILD: &str = "pol 1.0.0";
 
-/// What names a build: 1 to 64 bytes, each printable ASCII.
+/// What names a build, and where the ledger goes on from another one, the last sum of that one's: 1 to 96 bytes, each
+/// printable ASCII.
 #[derive(Drop)]
 pub struct Build {
-    bytes: [u8; 64],
+    bytes: [u8; 96],
     len: u8,
 }
 
@@ -41,7 +42,7 @@ fn has_printable_bytes(bytes: &[u8]) -> bool
 fn is_build(bytes: &[u8]) -> bool
     ensures { result ≡ is_build bytes.now }
 {
-    1 <= bytes.len() && bytes.len() <= 64 && has_printable_bytes(bytes)
+    1 <= bytes.len() && bytes.len() <= 96 && has_printable_bytes(bytes)
 }
 
 impl Build {
@@ -49,10 +50,10 @@ impl Build {
     pub fn of_bytes(bytes: &[u8]) -> Option<Build>
         ensures { result ≡ if is_build bytes.now then Some bytes.now else None }
     {
-        if bytes.len() > 64 || !is_build(bytes) {
+        if bytes.len() > 96 || !is_build(bytes) {
             return None;
         }
-        let mut kept = [0u8; 64];
+        let mut kept = [0u8; 96];
         kept[..bytes.len()].copy_from_slice(bytes);
         Some(Build {
             bytes: kept,

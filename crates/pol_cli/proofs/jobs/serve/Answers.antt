@@ -1,5 +1,6 @@
 use Rattle.std.proofs.Common.{ap, refl, ◌∙◌}
 use Rattle.pol_jobs.specs.LineWork.{output_by}
+use Rattle.pol_cli.specs.Attests.{attested}
 use Rattle.pol_cli.specs.Audits.{audit_work, audited}
 use Rattle.pol_replay.specs.Replay.{replay_work, replayed}
 use Rattle.pol_find.specs.Finding.{find_work, found}
@@ -34,6 +35,13 @@ returns-in-Audit-clause-ends g c =
     rw (c.in-Audit.is, c.status_of-in-Audit.ensures) (record {
       job = job_ends _ audited no_refusal _ _ c.work-in-Audit.result
           (ap (output_by audit_work) c.new-in-Audit.ensures ∙ audit_output) c.work-in-Audit.ensures.ends;
+      audits = c.laws_hold.ensures.audits;
+    })
+
+pub returns-in-Attest-clause-ends : goal.returns-in-Attest-clause-ends
+returns-in-Attest-clause-ends g c =
+    rw (c.in-Attest.is, c.status_of-in-Attest.ensures) (record {
+      job = job_ends _ attested no_refusal _ _ c.attest.result refl c.attest.ensures;
       audits = c.laws_hold.ensures.audits;
     })
 
