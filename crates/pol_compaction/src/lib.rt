@@ -16,9 +16,10 @@ ghost use Rattle.pol_compaction.specs.Law.{AgainChangesNothing, CompactionIsNoLo
 ghost use Rattle.pol_compaction.specs.Law.{LaterIsAnsweredAlike, LinesStay, OnceMoreIsAtOnce};
 ghost use Rattle.pol_compaction.specs.Silent.{SilentMayBeLeftOut};
 
+mod ahead;
 mod choosing;
-mod looks;
 mod noted;
+mod outlook;
 mod whole;
 
 pub use choosing::kept;
