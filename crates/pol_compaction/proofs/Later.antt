@@ -147,7 +147,7 @@ passed_refused gone whole less alike event passed = go (is_of [] gone (subject e
     go false is passed = full_refused (answer_of whole event) passed
 
 -- after it both plants are alike
-alike_passed : (gone : List (List ℕ)) (whole less : History) → AnswersAlike gone whole less → (event : PlainEvent) →
+pub alike_passed : (gone : List (List ℕ)) (whole less : History) → AnswersAlike gone whole less → (event : PlainEvent) →
     is_passed gone (entry_of whole event) ≡ true → AnswersAlike gone (recorded (entry_of whole event) whole) less
 alike_passed gone whole less alike event passed = go (is_recorded (answer_of whole event))
   where
@@ -158,7 +158,7 @@ alike_passed gone whole less alike event passed = go (is_recorded (answer_of who
         (unchanged_self less) (let before = alike.running.fewer in omega arith)
 
 -- what isn't passed names no forgotten batch, and isn't refused as full
-kept_parts : (gone : List (List ℕ)) (entry : PlainEntry) → is_passed gone entry ≡ false →
+pub kept_parts : (gone : List (List ℕ)) (entry : PlainEntry) → is_passed gone entry ≡ false →
     (is_of [] gone (subject entry.event) ≡ false) × (is_refused_as_full entry.answer ≡ false)
 kept_parts gone entry is = or_parts (is_of [] gone (subject entry.event)) (is_refused_as_full entry.answer) is
 

@@ -19,6 +19,9 @@ pub mod Again
 pub mod Walk
 pub mod Law
 pub mod Flags
+pub mod Fates
+pub mod OneAhead
+pub mod AllAhead
 pub mod Chosen
 pub mod Shorter
 pub mod Through

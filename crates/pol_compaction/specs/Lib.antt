@@ -10,3 +10,5 @@ pub mod Alone
 pub mod Law
 pub mod Flags
 pub mod Noted
+pub mod Fates
+pub mod Ahead

@@ -1,12 +1,10 @@
--- Modules that are noted by name, on the way over a history: forward those that were read, back those that are
--- replaced.
+-- Modules that are noted by name as read, on the way forward over a history.
 use Rattle.std.specs.Prelude.{ℕ, ◌≡◌, Bool, false, List}
 use Rattle.std.specs.Map.{lookup}
 use Rattle.std.specs.Option.{option_map_or}
 use Rattle.std.specs.Str.{bytes_eq}
-use Rattle.pol_events.specs.Events.{PlainEntry}
 use Rattle.pol_history.specs.Looking.{History, Subject, of_module, of_batch, of_recipe}
-use Rattle.pol_compaction.specs.Reading.{is_replaced, is_read}
+use Rattle.pol_compaction.specs.Reading.{is_read}
 use Rattle.pol_compaction.specs.Flags.{lasting_in}
 
 -- the name is noted
@@ -18,10 +16,6 @@ abbrev pub is_subject_noted : List (List ℕ × Bool) → Subject → Bool
 is_subject_noted named (of_module tag) = is_noted named tag
 is_subject_noted named (of_batch batch) = false
 is_subject_noted named (of_recipe name) = false
-
--- those modules are noted that one of these entries, the oldest first, replaces
-abbrev pub AreReplaced : History → List (List ℕ × Bool) → List PlainEntry → Type 0
-AreReplaced whole named newer = (tag : List ℕ) → is_noted named tag ≡ is_replaced tag (lasting_in whole newer)
 
 -- those modules are noted that one of these entries, the newest first, read since they were moved last
 abbrev pub AreRead : History → List (List ℕ × Bool) → History → Type 0

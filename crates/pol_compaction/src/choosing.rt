@@ -1,80 +1,55 @@
 //! Which entries of a history stay: one look back, and one forward.
-ghost use Rattle.std.specs.Prelude.{◌≡◌, ◌&&◌, ◌∷◌, [], List, IfOk, OnOk, length, map};
-ghost use Rattle.pol_events.specs.Events.{PlainEntry, plain_entry, plain_event, plain_history};
+ghost use Rattle.std.specs.Prelude.{◌≡◌, ◌∷◌, [], IfOk, OnOk, length, map};
+ghost use Rattle.pol_events.specs.Events.{plain_entry, plain_event, plain_history};
 ghost use Rattle.pol_history.specs.Looking.{History, subject};
+ghost use Rattle.pol_history.specs.Modules.{is_moving};
 ghost use Rattle.pol_compaction.specs.Compaction.{compacted};
-ghost use Rattle.pol_compaction.specs.Flags.{flagged, lasting_in, replaced_flags, replaced_tag, stay_flags, stays_by};
-ghost use Rattle.pol_compaction.specs.Lasting.{is_lasting};
-ghost use Rattle.pol_compaction.specs.Noted.{AreRead, AreReplaced, is_subject_noted};
-ghost use Rattle.pol_compaction.specs.Reading.{is_replacing};
+ghost use Rattle.pol_compaction.specs.Fates.{each_fate, stays_by};
+ghost use Rattle.pol_compaction.specs.Flags.{flagged, stay_flags};
+ghost use Rattle.pol_compaction.specs.Noted.{AreRead, is_subject_noted};
 
-use crate::looks::{is_moving, report_stays, value_stays};
+use crate::ahead::Fate;
 use crate::noted::Noted;
+use crate::outlook::Outlook;
 use crate::whole::Whole;
-use mtp_codes::Name;
 use pol_events::{Entry, Event, Subject};
 use pol_record::gather;
 use std::alloc::{AllocError, Global};
 
-// ---- back: modules that are replaced later
+// ---- back: what comes after each entry
 
-// Whether the event puts another module in the place of its own, or none.
-fn is_replacing(event: &Event) -> bool
-    ensures { result ≡ is_replacing (plain_event event.now) }
+// The fate of each entry, by what comes after it.
+fn fates(alloc: Global, whole: &Whole<'_, '_>, history: &[Entry]) -> Result<Vec<Fate>, AllocError>
+    ensures known { IfOk result (λ fates. fates.items
+        ≡ each_fate (plain_history whole.now) (map plain_entry history.now)) }
+    ensures all { IfOk result (λ fates. length fates.items ≡ length history.now) }
 {
-    matches!(event, Event::Plug { .. } | Event::Unplug { .. })
-}
-
-// The module that the entry replaces, where it lasts.
-fn replaced_tag(whole: &Whole<'_, '_>, entry: &Entry) -> Option<Name>
-    ensures { result ≡ replaced_tag (plain_history whole.now) (plain_entry entry.now) }
-{
-    match entry.event.subject() {
-        Subject::Module(tag) if whole.is_lasting(entry) && is_replacing(&entry.event) => Some(tag),
-        _ => None,
-    }
-}
-
-// Notes the module that the entry replaces, one that is older than those that were looked at.
-fn note_replaced(
-    whole: &Whole<'_, '_>,
-    replaced: &mut Noted,
-    entry: &Entry,
-) -> Result<(), AllocError>
-    ensures { OnOk result ((newer : List PlainEntry)
-        → AreReplaced (plain_history whole.now) replaced.old.named.entries newer
-        → AreReplaced (plain_history whole.now) replaced.new.named.entries (plain_entry entry.now ∷ newer)) }
-{
-    match replaced_tag(whole, entry) {
-        Some(tag) => replaced.put(tag, true),
-        None => Ok(()),
-    }
-}
-
-// For each entry, whether its module is replaced by a later one.
-fn replaced_flags(
-    alloc: Global,
-    whole: &Whole<'_, '_>,
-    history: &[Entry],
-) -> Result<Vec<bool>, AllocError>
-    ensures known { IfOk result (λ flags. flags.items
-        ≡ replaced_flags (plain_history whole.now) (map plain_entry history.now)) }
-    ensures all { IfOk result (λ flags. length flags.items ≡ length history.now) }
-{
-    let mut flags = vec![in alloc; false; history.len()]?;
-    let mut replaced = Noted::new(alloc);
+    let mut fates = vec![in alloc; Fate::Goes; history.len()]?;
+    let mut outlook = Outlook::new(alloc);
     for place in (0..history.len()).rev() {
-        let entry = &history[place];
-        flags[place] = replaced.has_module_of(&entry.event);
-        note_replaced(whole, &mut replaced, entry)?;
+        fates[place] = outlook.meet(whole, &history[place])?;
     }
-    Ok(flags)
+    Ok(fates)
 }
 
 // ---- forward: modules that were read
 
-// Notes the modules that the entry reads, one that is newer than those that were looked at; a module that it moves isn't
-// read since.
+// Whether the event changes whether its module is docked.
+fn is_moving(event: &Event) -> bool
+    ensures { result ≡ is_moving (plain_event event.now) }
+{
+    matches!(
+        event,
+        Event::Plug { .. }
+            | Event::Unplug { .. }
+            | Event::ExchangeBegin { .. }
+            | Event::ExchangeEnd { .. }
+            | Event::ExchangeCancel { .. }
+    )
+}
+
+// Notes the modules that the entry reads, one that is newer than those that were looked at; a module that it moves
+// isn't read since.
 fn note_read(whole: &Whole<'_, '_>, read: &mut Noted, entry: &Entry) -> Result<(), AllocError>
     ensures { OnOk result ((older : History)
         → AreRead (plain_history whole.now) read.old.named.entries older
@@ -93,66 +68,26 @@ fn note_read(whole: &Whole<'_, '_>, read: &mut Noted, entry: &Entry) -> Result<(
     }
 }
 
-// Whether an event stays, by whether its module was read and is replaced, and by the entries that come after it.
-fn stays(
-    whole: &Whole<'_, '_>,
-    was_read: bool,
-    replaced: bool,
-    newer: &[Entry],
-    event: &Event,
-) -> bool
-    ensures { result ≡ stays_by (plain_history whole.now) was_read replaced
-        (lasting_in (plain_history whole.now) (map plain_entry newer.now)) (plain_event event.now) }
+// Whether an entry of this fate stays, by the modules that were read before it.
+fn stays(fate: Fate, read: &Noted, entry: &Entry) -> bool
+    ensures { result ≡ stays_by fate (is_subject_noted read.now.named.entries (subject (plain_event entry.now.event))) }
 {
-    match event {
-        Event::Unplug { .. } => false,
-        Event::Plug { .. }
-        | Event::ExchangeBegin { .. }
-        | Event::ExchangeEnd { .. }
-        | Event::ExchangeCancel { .. } => !replaced,
-        Event::Report {
-            tag,
-            service,
-            control,
-            ..
-        } => !replaced && report_stays(whole, *tag, *service, control.state, was_read, newer),
-        Event::Variable { tag, name, .. } => !replaced && value_stays(whole, *tag, *name, newer),
-        _ => true,
+    match fate {
+        Fate::Stays => true,
+        Fate::StaysIfRead => read.has_module_of(&entry.event),
+        Fate::Goes => false,
     }
 }
 
-// Whether an entry stays, by the modules that were read before it.
-fn entry_stays(
-    whole: &Whole<'_, '_>,
-    read: &Noted,
-    replaced: bool,
-    newer: &[Entry],
-    entry: &Entry,
-) -> bool
-    ensures { result ≡ (is_lasting (plain_history whole.now) (plain_entry entry.now)
-        && stays_by (plain_history whole.now)
-        (is_subject_noted read.now.named.entries (subject (plain_event entry.now.event))) replaced
-        (lasting_in (plain_history whole.now) (map plain_entry newer.now)) (plain_event entry.now.event)) }
-{
-    whole.is_lasting(entry)
-        && stays(
-            whole,
-            read.has_module_of(&entry.event),
-            replaced,
-            newer,
-            &entry.event,
-        )
-}
-
-// For each entry, whether it stays, where it is known of each whether its module is replaced by a later one.
+// For each entry, whether it stays, where the fate of each is known.
 fn stay_flags(
     alloc: Global,
     whole: &Whole<'_, '_>,
-    replaced: &[bool],
+    fates: &[Fate],
     history: &[Entry],
 ) -> Result<Vec<bool>, AllocError>
-    requires known { replaced.now ≡ replaced_flags (plain_history whole.now) (map plain_entry history.now) }
-    requires all { length replaced.now ≡ length history.now }
+    requires known { fates.now ≡ each_fate (plain_history whole.now) (map plain_entry history.now) }
+    requires all { length fates.now ≡ length history.now }
     ensures { IfOk result (λ flags. flags.items
         ≡ stay_flags (plain_history whole.now) [] (map plain_entry history.now)) }
 {
@@ -160,16 +95,17 @@ fn stay_flags(
     let mut read = Noted::new(alloc);
     for place in 0..history.len() {
         let entry = &history[place];
-        let stays = entry_stays(whole, &read, replaced[place], &history[place + 1..], entry);
+        let stays = stays(fates[place], &read, entry);
         flags.push(stays)?;
         note_read(whole, &mut read, entry)?;
     }
     Ok(flags)
 }
 
-/// Whether each entry of a history stays where it is compacted, one flag an entry. Beside the flags it keeps the starts
-/// and logs of all batches and one name of each module; it looks from each report and each value of a module that isn't
-/// replaced later to the next entry that reads the module, moves it, or tells the same service or variable.
+/// Whether each entry of a history stays where it is compacted, one flag an entry. It looks over the history once back
+/// and once forward; of an entry it asks only what is known of its module then. Beside a fate and a flag for each entry
+/// it keeps the starts and logs of all batches, and of each module what its services and variables tell next, one value
+/// of each.
 pub fn kept(alloc: Global, history: &[Entry]) -> Result<Vec<bool>, AllocError>
     ensures flags { IfOk result (λ flags. flags.items
         ≡ stay_flags (plain_history history.now) [] (map plain_entry history.now)) }
@@ -181,6 +117,6 @@ pub fn kept(alloc: Global, history: &[Entry]) -> Result<Vec<bool>, AllocError>
         entries: history,
         batches: &batches,
     };
-    let replaced = replaced_flags(alloc, &whole, history)?;
-    stay_flags(alloc, &whole, &replaced, history)
+    let fates = fates(alloc, &whole, history)?;
+    stay_flags(alloc, &whole, &fates, history)
 }

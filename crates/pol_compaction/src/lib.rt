@@ -16,9 +16,10 @@ ghost use Rattle.pol_compaction.specs.Law.{AgainChangesNothing, CompactionIsNoLo
 ghost use Rattle.pol_compaction.specs.Law.{LaterIsAnsweredAlike, LinesStay, OnceMoreIsAtOnce};
 ghost use Rattle.pol_compaction.specs.Silent.{SilentMayBeLeftOut};
 
+mod ahead;
 mod choosing;
-mod looks;
 mod noted;
+mod outlook;
 mod whole;
 
 pub use choosing::kept;
@@ -55,10 +56,10 @@ pub fn lasting_run_alone()
     ensures { LastingRunAlone }
 {}
 
-/// The events that stay of a history, run by themselves, are answered as they were; and whatever comes later is answered
-/// after them as after the whole history, but for what names a batch that was closed there and what is refused there as
-/// full. Then the lines of all other batches are the same. The events are orderly, as those that lines say are; those
-/// that come later are any.
+/// The events that stay of a history, run by themselves, are answered as they were; and whatever comes later is
+/// answered after them as after the whole history, but for what names a batch that was closed there and what is refused
+/// there as full. Then the lines of all other batches are the same. The events are orderly, as those that lines say are;
+/// those that come later are any.
 pub fn compaction_keeps_answers()
     ensures kept { KeptIsAnsweredAgain }
     ensures later { LaterIsAnsweredAlike }

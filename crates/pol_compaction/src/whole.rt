@@ -1,17 +1,16 @@
 //! The history that is compacted, with what is known of its batches.
 ghost use Rattle.std.specs.Prelude.{◌≡◌, [], not};
 ghost use Rattle.std.specs.Option.{option_map, option_map_or};
-ghost use Rattle.mtp_codes.specs.Names.{is_among};
-ghost use Rattle.pol_events.specs.Bound.{given, plain_allocation, tags_of};
+ghost use Rattle.pol_events.specs.Bound.{given, plain_allocation};
 ghost use Rattle.pol_events.specs.Events.{plain_entry, plain_event, plain_history};
 ghost use Rattle.pol_history.specs.Batches.{is_open, start_of};
 ghost use Rattle.pol_history.specs.Looking.{subject};
 ghost use Rattle.pol_record.specs.Gathered.{plain_start};
 ghost use Rattle.pol_compaction.specs.Lasting.{is_closed_batch, is_desk, is_lasting, is_wait};
-ghost use Rattle.pol_compaction.specs.Reading.{read_binds, reads};
+ghost use Rattle.pol_compaction.specs.Reading.{read_binds};
 
 use mtp_codes::Name;
-use pol_events::{Allocation, Answer, Bind, Entry, Event, Subject};
+use pol_events::{Allocation, Answer, Entry, Event, Subject};
 use pol_record::{BatchRecords, Start};
 use std::marker::Model;
 
@@ -27,18 +26,6 @@ fn is_desk(event: &Event) -> bool
     ensures { result ≡ is_desk (plain_event event.now) }
 {
     matches!(event, Event::Desk { .. })
-}
-
-// Whether the tag is bound.
-fn binds(binds: &[Bind], tag: Name) -> bool
-    ensures { result ≡ is_among (tags_of binds.now) tag }
-{
-    for bind in binds {
-        if bind.tag == tag {
-            return true;
-        }
-    }
-    false
 }
 
 /// The entries of a history, and what one pass over it gathered of its batches.
@@ -121,16 +108,6 @@ impl<'a> Whole<'a, '_> {
                 None => None,
             },
             _ => None,
-        }
-    }
-
-    /// Whether the event reads the module.
-    pub fn reads(&self, tag: Name, event: &Event) -> bool
-        ensures { result ≡ reads (plain_history self.now) tag (plain_event event.now) }
-    {
-        match self.read_by(event) {
-            Some(read) => binds(read.held, tag) || binds(read.watched, tag),
-            None => false,
         }
     }
 }

@@ -9,29 +9,27 @@ use Rattle.std.proofs.lemmas.List.Elements.{filter_map-append}
 use Rattle.std.proofs.Math.Bool.{and-true}
 use Rattle.mtp_desc.specs.Plain.{PlainDescription}
 use Rattle.pol_events.specs.Events.{PlainEntry, PlainEvent, abandon, advance, desk, exchange_begin, exchange_cancel}
-use Rattle.pol_events.specs.Events.{exchange_end, freeze, plug, recipe, report, start, stop_batch, thaw, unplug, variable}
+use Rattle.pol_events.specs.Events.{exchange_end, freeze, plug, recipe, report, start, stop_batch, thaw, unplug}
+use Rattle.pol_events.specs.Events.{variable}
 use Rattle.pol_history.specs.Looking.{History, is_accepted, is_accepted_recipe, is_recipe, past, recipes, subject}
-use Rattle.pol_history.specs.Modules.{Docking, absent, control_by, description_by, description_of, docking_of}
+use Rattle.pol_history.specs.Modules.{absent, control_by, description_by, description_of, docking_of}
 use Rattle.pol_history.specs.Modules.{present_tags, seen_with, view_of}
 use Rattle.pol_history.specs.Batches.{holder_of}
-use Rattle.pol_history.specs.Runs.{AreOrderly, history_after, recorded_all}
+use Rattle.pol_history.specs.Runs.{history_after}
 use Rattle.pol_table.specs.ByteOrder.{in_byte_order}
 use Rattle.pol_core.specs.Calls.{module_sight}
 use Rattle.pol_match.specs.Fits.{PlainCandidate}
 use Rattle.pol_compaction.specs.Alike.{AnswersAlike, IsSameModule, LooksSame}
-use Rattle.pol_compaction.specs.Compaction.{compacted_events}
 use Rattle.pol_compaction.specs.Lasting.{closed_batches}
-use Rattle.pol_compaction.specs.Law.{entries_after}
-use Rattle.pol_compaction.proofs.Later.{later_runs}
-use Rattle.pol_compaction.proofs.Law.{all_alike}
 use Rattle.pol_runs.proofs.Wanted.{filter_same}
-use Rattle.pol_find.specs.Bindings.{bindings_text, told_of_each}
-use Rattle.pol_find.specs.Candidates.{candidate_of, candidate_with, candidates_of, idle_services, is_docked}
+use Rattle.pol_find.specs.Bindings.{told_of_each}
+use Rattle.pol_find.specs.Candidates.{candidate_of, candidate_with, candidates_of, is_docked}
 use Rattle.pol_find.specs.Candidates.{is_free, is_idle_at, is_seen_idle}
-use Rattle.pol_find.specs.Found.{Follows, IsFound, TellsEach}
+use Rattle.pol_find.specs.Found.{Follows, TellsEach}
 use Rattle.pol_find.specs.Lines.{bad_text}
-use Rattle.pol_find.specs.Recipes.{PlainRecipe, made_known, recipe_in, recipes_of}
+use Rattle.pol_find.specs.Recipes.{made_known, recipe_in, recipes_of}
 use Rattle.pol_record.specs.Texts.{line_text, under_key}
+use Rattle.pol_renewed.proofs.Renewing.{alike_renewed}
 use Rattle.pol_renewed.specs.Renewed.{CompactionFindsAlike, FindsSame, renewed_after, whole_after}
 
 -- ---- lists
@@ -179,24 +177,6 @@ module _ (gone : List (List ℕ)) (whole less : History) (alike : AnswersAlike g
 
 -- after whatever came later
 pub finds_alike : CompactionFindsAlike
-finds_alike events later orderly = finds_same gone whole less alike
-  where
-    before : History
-    before = history_after [] events
-
-    gone : List (List ℕ)
-    gone = closed_batches before
-
-    short : History
-    short = history_after [] (compacted_events before)
-
-    whole : History
-    whole = whole_after events later
-
-    less : History
-    less = renewed_after events later
-
-    alike : AnswersAlike gone whole less
-    alike =
-        let runs = later_runs gone before short (all_alike events orderly) later in
-        subst (λ entries. AnswersAlike gone whole (recorded_all short entries)) (sym runs.0) runs.1
+finds_alike events later orderly =
+    finds_same (closed_batches (history_after [] events)) (whole_after events later) (renewed_after events later)
+    (alike_renewed events later orderly)

@@ -1,1 +1,5 @@
+pub mod Renewing
+pub mod Commanded
 pub mod Found
+pub mod Replied
+pub mod Told

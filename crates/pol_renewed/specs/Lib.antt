@@ -1,1 +1,3 @@
 pub mod Renewed
+pub mod Guarded
+pub mod Overviews

@@ -1,9 +1,10 @@
 -- Each turn adds one flag, and notes what its entry reads.
-use Rattle.std.proofs.Common.{[], false, map, take, subst, sym}
+use Rattle.std.proofs.Common.{[], map, take, subst, sym}
 use Rattle.pol_events.specs.Events.{plain_entry, plain_history}
 use Rattle.pol_record.proofs.Known.{one_more}
 use Rattle.pol_compaction.specs.Flags.{stay_flags}
 use Rattle.pol_compaction.specs.Noted.{AreRead}
+use Rattle.pol_compaction.specs.declared.ahead.Fate.TheVariants.{Stays}
 use Rattle.pol_compaction.proofs.Chosen.{stay_next}
 use Rattle.pol_compaction.proofs.choosing.stay_flags.Goals as goal
 
@@ -14,10 +15,10 @@ loop-place-preserved c =
     let place = c.loop-place.place in
     let entry = c.index-history-place.result in
     record {
-      flags = stay_next whole history place entry c.loop-place.read.named.entries c.args.replaced.now
-          c.loop-place.flags.items c.push.new.self.items c.entry_stays-stays.result false
+      flags = stay_next whole history place entry c.loop-place.read.named.entries c.args.fates.now
+          c.loop-place.flags.items c.push.new.self.items c.stays-stays.result Stays
           (stay_flags whole [] (map plain_entry history)) c.loop-place-test.true c.index-history-place.is
-          c.loop-place.invariant.noted c.requires.known c.entry_stays-stays.ensures c.in_ok-push.ensures.items
+          c.loop-place.invariant.noted c.requires.known c.stays-stays.ensures c.in_ok-push.ensures.items
           c.loop-place.invariant.flags;
       noted = subst (AreRead whole c.note_read.new.read.named.entries)
           (sym (one_more history place entry c.loop-place-test.true c.index-history-place.is))
