@@ -5,7 +5,7 @@ ghost use Rattle.pol_io.specs.Causes.{Rose};
 ghost use Rattle.pol_disk.specs.Answers.{GivesImage, GoesOn, MayLeave, MightHaveLeft, brought, bytes_told, measured, read, told_first, tried, written};
 ghost use Rattle.pol_disk.specs.Disks.{Follows, Keeps, Torn};
 ghost use Rattle.pol_disk.specs.Records.{left_now, left_only_now};
-ghost use Rattle.pol_file.specs.Notes.{FileState, noted};
+ghost use Rattle.pol_file.specs.Notes.{FileState, noted, unopened};
 
 use crate::opening::Opened;
 use crate::record::Record;
@@ -48,6 +48,7 @@ pub struct FileDisk<'a, S: Start> {
     log: Record,
     start: PhantomData<S>,
     faults: u64,
+    in_use: bool,
 }
 
 impl<'a, S: Start> Model for FileDisk<'a, S> {
@@ -59,6 +60,7 @@ impl<'a, S: Start> Model for FileDisk<'a, S> {
     ghost view = { λ disk. record {
       told = told_after (told_first S.Start.bytes S.Start.deeds) disk.log.calls;
       faults = disk.faults;
+      in_use = disk.in_use;
     } };
 
     ghost invariant = { λ disk. GivesImage (told_after (told_first S.Start.bytes S.Start.deeds) disk.log.calls) };
@@ -72,7 +74,7 @@ fn ended() -> io::Error {
 impl<'a, S: Start> FileDisk<'a, S> {
     /// The file at a path in a folder; it isn't opened yet. The start is used up, so that one file has it.
     pub fn new(rt: &'a HostRuntime, path: &'a str, folder: &'a str, _start: S) -> FileDisk<'a, S>
-        ensures { result ≡ record { told = told_first S.Start.bytes S.Start.deeds; faults = 0 } }
+        ensures { result ≡ unopened (told_first S.Start.bytes S.Start.deeds) }
     {
         FileDisk {
             rt,
@@ -82,7 +84,15 @@ impl<'a, S: Start> FileDisk<'a, S> {
             log: Record::new(),
             start: PhantomData,
             faults: 0,
+            in_use: false,
         }
+    }
+
+    /// Whether a lock of another program was why a call failed.
+    pub fn is_in_use(&self) -> bool
+        ensures { result ≡ self.now.in_use }
+    {
+        self.in_use
     }
 
     // Opens the file where that wasn't done yet.
@@ -97,14 +107,17 @@ impl<'a, S: Start> FileDisk<'a, S> {
         Ok(())
     }
 
-    // A fault.
-    fn fail(&mut self) -> Failed
+    // A fault; that it is another's lock is noted.
+    fn fail(&mut self, error: &io::Error) -> Failed
         ensures rose { Rose self.old.faults self.new.faults }
         ensures later { self.old.faults ≤ self.new.faults }
         ensures told { self.new.told ≡ self.old.told }
         ensures image { GivesImage self.new.told }
     {
         self.faults = self.faults.saturating_add(1);
+        if error.kind() == ErrorKind::WouldBlock {
+            self.in_use = true;
+        }
         Failed
     }
 
@@ -220,28 +233,28 @@ impl<'a, S: Start> Disk for FileDisk<'a, S> {
     fn len(&mut self) -> Result<u64, Failed> {
         match self.try_len() {
             Ok(size) => Ok(size),
-            Err(_) => Err(self.fail()),
+            Err(error) => Err(self.fail(&error)),
         }
     }
 
     fn read(&mut self, at: u64, into: &mut [u8]) -> Result<usize, Failed> {
         match self.try_read(at, into) {
             Ok(count) => Ok(count),
-            Err(_) => Err(self.fail()),
+            Err(error) => Err(self.fail(&error)),
         }
     }
 
     fn write_at(&mut self, at: u64, piece: &[u8]) -> Result<(), Failed> {
         match self.try_write(at, piece) {
             Ok(()) => Ok(()),
-            Err(_) => Err(self.fail()),
+            Err(error) => Err(self.fail(&error)),
         }
     }
 
     fn sync(&mut self) -> Result<(), Failed> {
         match self.try_sync() {
             Ok(()) => Ok(()),
-            Err(_) => Err(self.fail()),
+            Err(error) => Err(self.fail(&error)),
         }
     }
 }

@@ -3,7 +3,7 @@ ghost use Rattle.std.specs.Prelude.{◌<◌, IfOk, length};
 ghost use Rattle.std.specs.Io.{ReadsAtMost};
 
 use sqlite_std_file::OpenError;
-use std::fs::{self, File, OpenOptions};
+use std::fs::{self, File, OpenOptions, TryLockError};
 use std::io::{self, ErrorKind};
 use std::os::fd::AsRawFd;
 use std::os::unix::fs::{FileExt, MetadataExt, OpenOptionsExt};
@@ -64,11 +64,13 @@ pub(crate) fn above_streams(file: File) -> io::Result<File> {
     file.try_clone()
 }
 
-// Locks a file or a folder against all who open it anew.
+// Locks a file or a folder against all who open it anew. `WouldBlock` comes where another holds a lock, and of nothing
+// else that is asked of a file.
 fn lock(file: &File) -> io::Result<()> {
     match file.try_lock() {
         Ok(()) => Ok(()),
-        Err(_) => Err(ErrorKind::WouldBlock.into()),
+        Err(TryLockError::WouldBlock) => Err(ErrorKind::WouldBlock.into()),
+        Err(TryLockError::Error(error)) => Err(error),
     }
 }
 

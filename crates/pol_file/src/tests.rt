@@ -21,6 +21,13 @@ fn held(rt: &HostRuntime) -> (Option<u64>, [u8; 8]) {
     (size, bytes)
 }
 
+// Whether a disk that is opened anew can be had, and whether it is in use.
+fn opened(rt: &HostRuntime) -> (bool, bool) {
+    let mut disk = FileDisk::new(rt, PATH, FOLDER, Unknown);
+    let is_open = disk.len().is_ok();
+    (is_open, disk.is_in_use())
+}
+
 // Writes a piece at a place within the file, or at its end, and syncs it.
 fn put(disk: &mut FileDisk<'_, Unknown>, at: u64, piece: &[u8]) -> bool {
     match disk.len() {
@@ -57,15 +64,15 @@ fn a_folder_has_one_disk_at_a_time(rt: HostRuntime) -> Result<(), Fail> {
     fs::create_dir(&rt, FOLDER)?;
     let mut disk = FileDisk::new(&rt, PATH, FOLDER, Unknown);
     assert!(rt; disk.len().is_ok());
-    assert!(rt; FileDisk::new(&rt, PATH, FOLDER, Unknown).len().is_err());
+    assert_eq!(rt; opened(&rt), (false, true));
     fs::rename(&rt, PATH, ELSEWHERE)?;
-    assert!(rt; FileDisk::new(&rt, PATH, FOLDER, Unknown).len().is_err());
+    assert_eq!(rt; opened(&rt), (false, true));
     assert!(rt; !fs::exists(&rt, PATH)?);
     drop(disk);
-    assert!(rt; FileDisk::new(&rt, PATH, FOLDER, Unknown).len().is_ok());
+    assert_eq!(rt; opened(&rt), (true, false));
     fs::remove_file(&rt, PATH)?;
     symlink(&rt, "elsewhere", PATH)?;
-    assert!(rt; FileDisk::new(&rt, PATH, FOLDER, Unknown).len().is_err());
+    assert_eq!(rt; opened(&rt), (false, false));
     fs::remove_dir_all(&rt, FOLDER)?;
     Ok(())
 }

@@ -1,4 +1,4 @@
--- The candidates after a history: they are free, in order, and few.
+-- The candidates after a history: they are docked, in order, and few; those of the one pool are free.
 use Rattle.std.proofs.Common.{◌≡◌, ◌<◌, ◌≤◌, ℕ, Bool, true, false, cond, not, ◌&&◌, Option, Some, None, List, []}
 use Rattle.std.proofs.Common.{◌∷◌, map, length, refl, sym, ◌∙◌, ap, subst, arith}
 use Rattle.std.specs.Prelude.{filter, filter_map, is_none, is_some, nat_le, option_map}
@@ -14,7 +14,7 @@ use Rattle.mtp_machine.specs.States.{is_idle}
 use Rattle.mtp_modes.specs.declared.view.ServiceView.{ServiceView}
 use Rattle.pol_events.specs.Events.{PlainEvent, abandon, advance, desk, exchange_begin, exchange_cancel, exchange_end}
 use Rattle.pol_events.specs.Events.{freeze, plug, recipe, report, start, stop_batch, thaw, unplug, variable}
-use Rattle.pol_events.proofs.Lists.{member_kept}
+use Rattle.pol_events.proofs.Lists.{member_kept, no_member}
 use Rattle.pol_history.specs.Answers.{answer_of}
 use Rattle.pol_history.specs.Batches.{holder_of}
 use Rattle.pol_history.specs.Looking.{History, is_accepted}
@@ -29,7 +29,11 @@ use Rattle.pol_table.proofs.ByteOrder.{order_length, order_sorted}
 use Rattle.pol_core.specs.Calls.{module_sight}
 use Rattle.pol_match.specs.Bindings.{AreInOrder, name_cmp, tags_in}
 use Rattle.pol_match.specs.Fits.{PlainCandidate}
-use Rattle.pol_find.specs.Candidates.{candidate_of, candidate_with, candidates_of, is_docked, is_idle_at, is_seen_idle}
+use Rattle.pol_find.specs.Candidates.{candidate_in, candidate_of, candidate_with, candidates_in, candidates_of}
+use Rattle.pol_find.specs.Candidates.{docked_candidate_of, docked_candidate_with, idle_services, is_docked, is_idle_at}
+use Rattle.pol_find.specs.Candidates.{is_seen_idle}
+use Rattle.pol_find.specs.declared.candidates.Pool.{Pool}
+use Rattle.pol_find.specs.declared.candidates.Pool.TheVariants.{Free, Docked}
 use Rattle.pol_find.proofs.Lists.{made_of}
 
 -- ---- each is free
@@ -40,13 +44,22 @@ pub record IsIdle (history : History) (tag service : List ℕ) : Type 0 where
   pub seen : view_of history tag service ≡ Some view
   pub idle : is_idle view.control.state ≡ true
 
--- the candidate is docked with its description, held by no batch, and each of its services was reported last as idle
-pub record IsFree (history : History) (candidate : PlainCandidate) : Type 0 where
+-- the candidate is docked with its description, and each of its idle services was reported last as idle
+pub record IsDocked (history : History) (candidate : PlainCandidate) : Type 0 where
   pub count : ℕ
   pub there : docking_of history candidate.tag ≡ docked count
-  pub unheld : holder_of history candidate.tag ≡ None
   pub described : description_of history candidate.tag ≡ Some candidate.description
   pub idle : (service : List ℕ) → Contains candidate.idle service → IsIdle history candidate.tag service
+
+-- it is, and no batch holds it
+pub record IsFree (history : History) (candidate : PlainCandidate) : Type 0 where
+  pub docked : IsDocked history candidate
+  pub unheld : holder_of history candidate.tag ≡ None
+
+-- it is docked, and no batch holds it where it has an idle service
+pub record IsSpare (history : History) (candidate : PlainCandidate) : Type 0 where
+  pub docked : IsDocked history candidate
+  pub unheld : (service : List ℕ) → Contains candidate.idle service → holder_of history candidate.tag ≡ None
 
 -- a service of a docked module that is seen idle was reported so
 seen_idle : (history : History) (tag service : List ℕ) (count : ℕ) → docking_of history tag ≡ docked count →
@@ -59,6 +72,18 @@ seen_idle history tag service count there idle =
         is_seen_idle (module_sight (docked count) view) ≡ true → IsIdle history tag service
     go None seen idle = absurd cc
     go (Some view) seen idle = record { view = view; seen = seen; idle = idle }
+
+-- a docked tag with its description and its idle services
+docked_whole : (history : History) (tag : List ℕ) (description : PlainDescription) (count : ℕ) →
+    docking_of history tag ≡ docked count → description_of history tag ≡ Some description →
+    IsDocked history (candidate_with history tag description)
+docked_whole history tag description count there described = record {
+  count = count;
+  there = there;
+  described = described;
+  idle = λ service inside. seen_idle history tag service count there
+      (member_kept (is_idle_at history tag) (map (λ service. service.name) description.services) service inside).1;
+}
 
 -- a tag that is a candidate is free
 tag_free : (history : History) (tag : List ℕ) (candidate : PlainCandidate) →
@@ -79,15 +104,7 @@ tag_free history tag candidate is =
     go (docked count) there None unheld (Some description) described is =
         let same : candidate_with history tag description ≡ candidate = cc in
         let free : IsFree history (candidate_with history tag description) =
-        record {
-          count = count;
-          there = there;
-          unheld = unheld;
-          described = described;
-          idle = λ service inside. seen_idle history tag service count there
-              (member_kept (is_idle_at history tag) (map (λ service. service.name) description.services) service
-              inside).1;
-        } in
+        record { docked = docked_whole history tag description count there described; unheld = unheld } in
         (ap (λ (candidate : PlainCandidate). candidate.tag) (sym same), subst (IsFree history) same free)
 
 -- so is each candidate
@@ -97,30 +114,94 @@ candidate_free history candidate inside =
     let (tag, member, is) = made_of (candidate_of history) (in_byte_order (present_tags history)) candidate inside in
     (tag_free history tag candidate is).1
 
+-- ---- those that are docked are spare
+
+-- with the services of a tag that no batch holds, or with none
+docked_spare : (history : History) (tag : List ℕ) (description : PlainDescription) (count : ℕ) →
+    docking_of history tag ≡ docked count → description_of history tag ≡ Some description →
+    IsSpare history (docked_candidate_with history tag description)
+docked_spare history tag description count there described = go (holder_of history tag) refl
+  where
+    go : (holder : Option (List ℕ)) → holder_of history tag ≡ holder → IsSpare history
+        (record {
+          tag = tag;
+          description = description;
+          idle = cond (is_none holder) (idle_services history tag description) [];
+        })
+    go None unheld = record {
+      docked = docked_whole history tag description count there described;
+      unheld = λ service inside. unheld;
+    }
+    go (Some batch) held = record {
+      docked = record {
+        count = count;
+        there = there;
+        described = described;
+        idle = λ service inside. no_member service inside;
+      };
+      unheld = λ service inside. no_member service inside;
+    }
+
+-- a tag that is a docked candidate is spare
+tag_spare : (history : History) (tag : List ℕ) (candidate : PlainCandidate) →
+    docked_candidate_of history tag ≡ Some candidate → (candidate.tag ≡ tag) × IsSpare history candidate
+tag_spare history tag candidate is =
+    go (docking_of history tag) refl (description_of history tag) refl is
+  where
+    go : (docking : Docking) → docking_of history tag ≡ docking → (description : Option PlainDescription) →
+        description_of history tag ≡ description →
+        cond (is_docked docking) (option_map (docked_candidate_with history tag) description) None ≡ Some candidate →
+        (candidate.tag ≡ tag) × IsSpare history candidate
+    go absent there description described is = absurd cc
+    go (away ticket) there description described is = absurd cc
+    go (docked count) there None described is = absurd cc
+    go (docked count) there (Some description) described is =
+        let same : docked_candidate_with history tag description ≡ candidate = cc in (
+          ap (λ (candidate : PlainCandidate). candidate.tag) (sym same),
+          subst (IsSpare history) same (docked_spare history tag description count there described),
+        )
+
+-- so is each docked candidate
+pub candidate_spare : (history : History) (candidate : PlainCandidate) →
+    Contains (candidates_in Docked history) candidate → IsSpare history candidate
+candidate_spare history candidate inside =
+    let (tag, member, is) = made_of (docked_candidate_of history) (in_byte_order (present_tags history)) candidate
+    inside in
+    (tag_spare history tag candidate is).1
+
 -- ---- they are in order
 
--- their tags are those of these tags that are free
-tags_kept : (history : History) (tags : List (List ℕ)) →
-    tags_in (filter_map (candidate_of history) tags) ≡ filter (λ tag. is_some (candidate_of history tag)) tags
-tags_kept history [] = refl
-tags_kept history (tag ∷ tags) = go (candidate_of history tag) refl (tags_kept history tags)
+-- each has the tag that it was made of
+pool_tagged : (pool : Pool) (history : History) (tag : List ℕ) (candidate : PlainCandidate) →
+    candidate_in pool history tag ≡ Some candidate → candidate.tag ≡ tag
+pool_tagged Free history tag candidate is = (tag_free history tag candidate is).0
+pool_tagged Docked history tag candidate is = (tag_spare history tag candidate is).0
+
+-- their tags are those of these tags that are in the pool
+tags_kept : (pool : Pool) (history : History) (tags : List (List ℕ)) →
+    tags_in (filter_map (candidate_in pool history) tags)
+    ≡ filter (λ tag. is_some (candidate_in pool history tag)) tags
+tags_kept pool history [] = refl
+tags_kept pool history (tag ∷ tags) = go (candidate_in pool history tag) refl (tags_kept pool history tags)
   where
-    go : (found : Option PlainCandidate) → candidate_of history tag ≡ found →
-        tags_in (filter_map (candidate_of history) tags) ≡ filter (λ tag. is_some (candidate_of history tag)) tags →
-        tags_in (cons_option found (filter_map (candidate_of history) tags))
-        ≡ cond (is_some found) (tag ∷ filter (λ tag. is_some (candidate_of history tag)) tags)
-        (filter (λ tag. is_some (candidate_of history tag)) tags)
+    go : (found : Option PlainCandidate) → candidate_in pool history tag ≡ found →
+        tags_in (filter_map (candidate_in pool history) tags)
+        ≡ filter (λ tag. is_some (candidate_in pool history tag)) tags →
+        tags_in (cons_option found (filter_map (candidate_in pool history) tags))
+        ≡ cond (is_some found) (tag ∷ filter (λ tag. is_some (candidate_in pool history tag)) tags)
+        (filter (λ tag. is_some (candidate_in pool history tag)) tags)
     go None is rest = rest
     go (Some candidate) is rest =
-        ap (λ first. first ∷ tags_in (filter_map (candidate_of history) tags)) (tag_free history tag candidate is).0
+        ap (λ first. first ∷ tags_in (filter_map (candidate_in pool history) tags))
+        (pool_tagged pool history tag candidate is)
         ∙ ap (λ later. tag ∷ later) rest
 
 -- the tags stand in byte order, each once
-pub candidates_in_order : (history : History) → AreInOrder (candidates_of history)
-candidates_in_order history =
+pub candidates_in_order : (pool : Pool) (history : History) → AreInOrder (candidates_in pool history)
+candidates_in_order pool history =
     let tags = in_byte_order (present_tags history) in
-    subst (IsStrictlySortedBy name_cmp) (sym (tags_kept history tags))
-    (IsStrictlySortedBy-filter name_cmp (λ tag. is_some (candidate_of history tag)) tags
+    subst (IsStrictlySortedBy name_cmp) (sym (tags_kept pool history tags))
+    (IsStrictlySortedBy-filter name_cmp (λ tag. is_some (candidate_in pool history tag)) tags
     (order_sorted (present_tags history)))
 
 -- ---- they are few
@@ -169,10 +250,11 @@ present_few (entry ∷ history) legal =
     go (exchange_cancel at tag ticket) event_is kept accepted few = few
 
 -- the candidates of a legal history are at most as many
-pub candidates_few : (history : History) → IsLegal history → length (candidates_of history) ≤ MOST_MODULES
-candidates_few history legal = omega (
+pub candidates_few : (pool : Pool) (history : History) → IsLegal history →
+    length (candidates_in pool history) ≤ MOST_MODULES
+candidates_few pool history legal = omega (
   arith,
-  length_filter_map (candidate_of history) (in_byte_order (present_tags history)),
+  length_filter_map (candidate_in pool history) (in_byte_order (present_tags history)),
   order_length (present_tags history),
   present_few history legal,
 )

@@ -8,6 +8,8 @@ pub mod Listed
 pub mod Free
 pub mod Unrefused
 pub mod Starting
+pub mod Unkept
+pub mod Offered
 pub mod Written
 pub mod Possible
 pub mod Entries

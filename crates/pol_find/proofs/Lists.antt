@@ -1,9 +1,10 @@
 -- Members of lists.
-use Rattle.std.proofs.Common.{◌≡◌, Bool, true, false, cond, Option, Some, None, List, [], ◌∷◌, map, refl, ◌∙◌, ap, inl}
+use Rattle.std.proofs.Common.{◌≡◌, Bool, true, false, cond, not, Option, Some, None, List, [], ◌∷◌, map, refl, ◌∙◌, ap, inl}
 use Rattle.std.proofs.Common.{inr}
-use Rattle.std.specs.Prelude.{filter_map, find}
-use Rattle.std.specs.List.{Contains, cons_option, list_any}
+use Rattle.std.specs.Prelude.{◌||◌, filter, filter_map, find}
+use Rattle.std.specs.List.{Contains, cons_option, list_all, list_any}
 use Rattle.std.specs.Option.{option_or}
+use Rattle.std.proofs.lemmas.Bool.{and_parts}
 use Rattle.std.proofs.lemmas.List.Folds.{Any-from_list_any}
 use Rattle.mtp_codes.specs.Faults.{first_of}
 use Rattle.chart_core.proofs.Lawful.{member_cases}
@@ -46,3 +47,44 @@ made_of {X} {Y} make (x ∷ xs) y inside = go (make x) refl inside (made_of make
           | inl same ↦ (x, member_first x xs, is ∙ ap Some same)
           | inr behind ↦ let (other, later, made) = rest behind in (other, member_later x other xs later, made)
         ]
+
+-- where no member passes, none of all does
+pub none_any : {X : Type 0} (test : X → Bool) (xs : List X) → ((x : X) → Contains xs x → test x ≡ false) →
+    list_any test xs ≡ false
+none_any test [] fails = refl
+none_any test (x ∷ xs) fails =
+    ap (λ passes. passes || list_any test xs) (fails x (member_first x xs))
+    ∙ none_any test xs (λ y inside. fails y (member_later x y xs inside))
+
+-- what all pass, all pass that another test keeps
+pub all_kept : {X : Type 0} (test keeps : X → Bool) (xs : List X) → list_all test xs ≡ true →
+    list_all test (filter keeps xs) ≡ true
+all_kept test keeps [] all = refl
+all_kept {X} test keeps (x ∷ xs) all =
+    let parts = and_parts (test x) (list_all test xs) all in
+    go (keeps x) parts.0 (all_kept test keeps xs parts.1)
+  where
+    go : (kept : Bool) → test x ≡ true → list_all test (filter keeps xs) ≡ true →
+        list_all test (cond kept (x ∷ filter keeps xs) (filter keeps xs)) ≡ true
+    go false passes rest = rest
+    go true passes rest = rw (passes, rest) refl
+
+-- a test that all pass keeps all
+pub whole_kept : {X : Type 0} (test : X → Bool) (xs : List X) → list_all test xs ≡ true → filter test xs ≡ xs
+whole_kept test [] all = refl
+whole_kept test (x ∷ xs) all =
+    let parts = and_parts (test x) (list_all test xs) all in
+    rw parts.0 (ap (λ later. x ∷ later) (whole_kept test xs parts.1))
+
+-- and its opposite keeps none
+pub none_kept : {X : Type 0} (test : X → Bool) (xs : List X) → list_all test xs ≡ true →
+    filter (λ x. not (test x)) xs ≡ []
+none_kept test [] all = refl
+none_kept test (x ∷ xs) all =
+    let parts = and_parts (test x) (list_all test xs) all in
+    rw parts.0 (none_kept test xs parts.1)
+
+-- each passes what is always true
+pub always : {X : Type 0} (xs : List X) → list_all (λ x. true) xs ≡ true
+always [] = refl
+always (x ∷ xs) = always xs

@@ -1,5 +1,5 @@
 -- Of each recipe one thing can be told: its least binding to the candidates, or a shortage.
-use Rattle.std.proofs.Common.{◌≡◌, ◌<◌, ◌≤◌, ◌+◌, ℕ, zero, suc, true, Option, Some, None, List, [], ◌∷◌, ◌++◌, drop, get_or}
+use Rattle.std.proofs.Common.{◌≡◌, ◌<◌, ◌≤◌, ℕ, zero, suc, true, Option, Some, None, List, [], ◌∷◌, ◌++◌, drop, get_or}
 use Rattle.std.proofs.Common.{refl, length, sym, ◌∙◌, ap, arith, length-append}
 use Rattle.std.specs.List.{cons_option}
 use Rattle.std.proofs.lemmas.List.{get_or_default}
@@ -21,6 +21,7 @@ use Rattle.pol_find.specs.Found.{AreFound, FindingsAreOne, IsFound, Tells, Tells
 use Rattle.pol_find.specs.Lines.{bad_object, bad_text}
 use Rattle.pol_find.specs.Recipes.{PlainRecipe, made_known, recipes_of}
 use Rattle.pol_find.specs.Told.{AreToldRightly, told_of}
+use Rattle.pol_find.specs.declared.candidates.Pool.TheVariants.{Free}
 use Rattle.pol_find.proofs.Entries.{recipes_in}
 use Rattle.pol_find.proofs.Free.{candidates_few, candidates_in_order}
 use Rattle.pol_find.proofs.Listed.{is_listed}
@@ -36,8 +37,8 @@ all_rightly history legal orderly =
     (λ at blank low. let recipe = get_or (recipes_of history) at blank in
     let is = is_listed history recipe legal orderly
     (at, low, get_or_default (recipes_of history) at recipe blank low) in
-    each_rightly recipe.chart (candidates_of history) is.formed (candidates_few history legal)
-    (candidates_in_order history))
+    each_rightly recipe.chart (candidates_of history) is.formed (candidates_few Free history legal)
+    (candidates_in_order Free history))
 
 -- what is right of each recipe is right of those behind an entry
 pub rightly_behind : (candidates : List PlainCandidate) (entries : List Entry) (at : ℕ) →

@@ -7,19 +7,21 @@ use Rattle.serde_json.specs.Data.{Data, string}
 use Rattle.serde_json.specs.View.{items_of}
 use Rattle.serde_json.specs.Written.{items_outline}
 use Rattle.pol_record.specs.Objects.{data_tokens}
-use Rattle.pol_record.specs.Texts.{under_key}
+use Rattle.pol_events.specs.declared.event.Bind.{Bind}
+use Rattle.event_json.specs.Written.{written_binds}
+use Rattle.pol_record.specs.Texts.{under_key, watch_tokens}
 use Rattle.pol_match.specs.Fits.{PlainCandidate}
-use Rattle.pol_find.specs.Lines.{bind_object, short_object}
+use Rattle.pol_find.specs.Lines.{bind_object, offer_object, short_object}
 use Rattle.pol_find.specs.Recipes.{PlainRecipe}
-use Rattle.pol_find.specs.Told.{told_of}
+use Rattle.pol_find.specs.Offers.{offer_of}
 
 -- the tokens of the last names of a list, and its bracket
 abbrev pub names_tokens : List (List ℕ) → List Token
 names_tokens names = items_tokens (items_outline (items_of (map string names)))
 
--- the tokens of what is told of the last recipes, and its bracket
-abbrev pub told_tokens : List PlainCandidate → List PlainRecipe → List Token
-told_tokens candidates recipes = items_tokens (items_outline (items_of (map (told_of candidates) recipes)))
+-- the tokens of what the last recipes are offered, and its bracket
+abbrev pub offers_tokens : List PlainCandidate → List PlainRecipe → List Token
+offers_tokens candidates recipes = items_tokens (items_outline (items_of (map (offer_of candidates) recipes)))
 
 -- a bracket, the binds, the recipe and a bracket behind other tokens are the tokens of a recipe that can be bound
 pub bind_tokens : (old : List Token) (recipe : List ℕ) (binds : Data) →
@@ -32,6 +34,20 @@ pub bind_tokens : (old : List Token) (recipe : List ℕ) (binds : Data) →
     ≡ old ++ data_tokens (bind_object binds recipe)
 unfolding bind_object
 bind_tokens old recipe binds = simp append_assoc refl
+
+-- the same with what is held, and what is watched behind the recipe where anything is
+pub offer_tokens : (old : List Token) (recipe : List ℕ) (held watched : List Bind) →
+    (((((old ++ token.begin_object ∷ []) ++ token.key (codes "bind") ∷ []) ++ data_tokens (written_binds held))
+    ++ token.key (codes "recipe")
+    ∷ token.string recipe
+    ∷ [])
+    ++ watch_tokens watched)
+    ++ token.end_object
+    ∷ []
+    ≡ old ++ data_tokens (offer_object (record { held = held; watched = watched }) recipe)
+unfolding offer_object
+offer_tokens old recipe held [] = simp append_assoc refl
+offer_tokens old recipe held (bind ∷ binds) = simp append_assoc refl
 
 -- a bracket, the recipe, the roles, the tags and a bracket behind other tokens are the tokens of one that can't
 pub short_tokens : (old : List Token) (recipe : List ℕ) (roles tags : Data) →

@@ -1,19 +1,20 @@
 -- The bindings of all recipes after a history, as a function of it.
-use Rattle.std.specs.Prelude.{ℕ, List, map, codes}
-use Rattle.serde_json.specs.Data.{Data, array}
-use Rattle.serde_json.specs.View.{items_of}
+use Rattle.std.specs.Prelude.{ℕ, ◌≡◌, List, true, codes}
 use Rattle.pol_history.specs.Looking.{History}
-use Rattle.pol_match.specs.Fits.{PlainCandidate}
 use Rattle.pol_record.specs.Texts.{line_text, under_key}
-use Rattle.pol_find.specs.Candidates.{candidates_of}
+use Rattle.pol_find.specs.Candidates.{candidates_in, candidates_of}
+use Rattle.pol_find.specs.Offers.{is_all_stepped, offer_of, offers_of}
 use Rattle.pol_find.specs.Recipes.{PlainRecipe, recipes_of}
 use Rattle.pol_find.specs.Told.{told_of}
+use Rattle.pol_find.specs.declared.candidates.Pool.TheVariants.{Docked}
 
--- the objects that are told of recipes, in their order
-abbrev pub told_of_each : List PlainCandidate → List PlainRecipe → Data
-told_of_each candidates recipes = array (items_of (map (told_of candidates) recipes))
-
--- the line of the bindings: what is told of each recipe, with the modules that are free
+-- the line of the bindings: what each recipe is offered, with the modules that are docked
 abbrev pub bindings_text : History → List ℕ
 bindings_text history =
-    line_text (under_key (codes "bindings") (told_of_each (candidates_of history) (recipes_of history)))
+    line_text (under_key (codes "bindings") (offers_of (candidates_in Docked history) (recipes_of history)))
+
+-- where each role of a recipe has a step, it is offered what a finder tells of it
+abbrev pub OffersAreTold : Type 0
+OffersAreTold =
+    (history : History) (recipe : PlainRecipe) → is_all_stepped recipe.chart ≡ true
+    → offer_of (candidates_in Docked history) recipe ≡ told_of (candidates_of history) recipe

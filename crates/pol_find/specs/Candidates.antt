@@ -1,5 +1,5 @@
 -- The modules that could be bound after a history.
-use Rattle.std.specs.Prelude.{ℕ, Bool, true, false, ◌&&◌, List, map, filter, filter_map, Option, None, is_none}
+use Rattle.std.specs.Prelude.{ℕ, Bool, true, false, ◌&&◌, List, [], map, filter, filter_map, Option, None, is_none}
 use Rattle.std.specs.Prelude.{if◌then◌else◌}
 use Rattle.std.specs.Option.{option_map}
 use Rattle.mtp_desc.specs.Plain.{PlainDescription}
@@ -12,6 +12,8 @@ use Rattle.pol_history.specs.Modules.{Docking, absent, docked, away, docking_of,
 use Rattle.pol_table.specs.ByteOrder.{in_byte_order}
 use Rattle.pol_core.specs.Calls.{module_sight}
 use Rattle.pol_match.specs.Fits.{PlainCandidate}
+use Rattle.pol_find.specs.declared.candidates.Pool.{Pool}
+use Rattle.pol_find.specs.declared.candidates.Pool.TheVariants.{Free, Docked}
 
 -- the service is seen, and is idle
 abbrev pub is_seen_idle : Sight → Bool
@@ -51,3 +53,28 @@ candidate_of history tag =
 -- the candidates: the tags that are free, in byte order
 abbrev pub candidates_of : History → List PlainCandidate
 candidates_of history = filter_map (candidate_of history) (in_byte_order (present_tags history))
+
+-- those services of a description that a step could be given: of a tag that a batch holds none
+abbrev pub spare_services : History → List ℕ → PlainDescription → List (List ℕ)
+spare_services history tag description =
+    if is_none (holder_of history tag) then idle_services history tag description else []
+
+-- the tag as a candidate to be held or watched, with its spare services: where it has none it fits no role with a step
+abbrev pub docked_candidate_with : History → List ℕ → PlainDescription → PlainCandidate
+docked_candidate_with history tag description =
+    record { tag = tag; description = description; idle = spare_services history tag description }
+
+-- the same, where it is docked, held or not
+abbrev pub docked_candidate_of : History → List ℕ → Option PlainCandidate
+docked_candidate_of history tag =
+    if is_docked (docking_of history tag)
+    then option_map (docked_candidate_with history tag) (description_of history tag) else None
+
+-- the tag as a candidate of a pool
+abbrev pub candidate_in : Pool → History → List ℕ → Option PlainCandidate
+candidate_in Free = candidate_of
+candidate_in Docked = docked_candidate_of
+
+-- the candidates of a pool, in byte order
+abbrev pub candidates_in : Pool → History → List PlainCandidate
+candidates_in pool history = filter_map (candidate_in pool history) (in_byte_order (present_tags history))

@@ -2,6 +2,7 @@ pub mod Candidates
 pub mod Recipes
 pub mod Lines
 pub mod Told
+pub mod Offers
 pub mod Bindings
 pub mod Found
 pub mod Finding

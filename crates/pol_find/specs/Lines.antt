@@ -2,6 +2,8 @@
 use Rattle.std.specs.Prelude.{ℕ, List, map, true, codes}
 use Rattle.serde_json.specs.Data.{Data, array, boolean, number, object, string, unsigned, member, no_members}
 use Rattle.serde_json.specs.View.{items_of}
+use Rattle.pol_events.specs.Bound.{PlainAllocation}
+use Rattle.event_json.specs.Written.{watch_member, written_binds}
 use Rattle.pol_record.specs.Texts.{line_text}
 
 -- names as a list of texts
@@ -12,6 +14,13 @@ names_data names = array (items_of (map string names))
 unfoldable pub bind_object : Data → List ℕ → Data
 bind_object binds recipe =
     object (member (codes "bind") binds (member (codes "recipe") (string recipe) no_members))
+
+-- the same, with what is held and, where anything is, what is watched
+unfoldable pub offer_object : PlainAllocation → List ℕ → Data
+offer_object binds recipe =
+    object
+    (member (codes "bind") (written_binds binds.held)
+    (member (codes "recipe") (string recipe) (watch_member binds.watched)))
 
 -- a recipe that can't, with these roles and these tags
 unfoldable pub short_object : List ℕ → Data → Data → Data

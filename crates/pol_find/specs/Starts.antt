@@ -13,8 +13,10 @@ use Rattle.pol_history.specs.Looking.{History}
 use Rattle.pol_history.specs.Runs.{IsLegal, IsOrderly}
 use Rattle.pol_match.specs.Bindings.{IsBinding}
 use Rattle.pol_match.specs.Chosen.{binding_of}
-use Rattle.pol_find.specs.Candidates.{candidates_of}
+use Rattle.pol_find.specs.Candidates.{candidates_in, candidates_of}
+use Rattle.pol_find.specs.Offers.{allocation_of}
 use Rattle.pol_find.specs.Recipes.{PlainRecipe, recipes_of}
+use Rattle.pol_find.specs.declared.candidates.Pool.TheVariants.{Docked}
 
 -- the start of a batch of a recipe that holds the modules of a binding, and watches none
 abbrev pub start_with : ℕ → List ℕ → PlainRecipe → List Bind → PlainEvent
@@ -41,3 +43,26 @@ ToldBindingsStart =
     → binding_of recipe.chart (candidates_of history) ≡ Some binds → start_of history batch ≡ None
     → length (filter is_start history) < MOST_BATCHES → is_full history ≡ false
     → IsDone history (start_with at batch recipe binds)
+
+-- the start of a batch of a recipe that holds the modules of a binding whose roles have a step, and watches the others
+abbrev pub offered_start : ℕ → List ℕ → PlainRecipe → List Bind → PlainEvent
+offered_start at batch recipe binds = start at batch recipe.name (allocation_of recipe.chart binds)
+
+-- after any history each recipe starts a new batch so, with each of its bindings to the docked candidates, where there
+-- is room: what it watches may be held by another batch
+abbrev pub OffersStart : Type 0
+OffersStart =
+    (history : History) (recipe : PlainRecipe) (binds : List Bind) (at : ℕ) (batch : List ℕ) → IsLegal history
+    → IsOrderly history → Contains (recipes_of history) recipe
+    → IsBinding recipe.chart (candidates_in Docked history) binds → start_of history batch ≡ None
+    → length (filter is_start history) < MOST_BATCHES → is_full history ≡ false
+    → IsDone history (offered_start at batch recipe binds)
+
+-- so with the one that is told in the line of the bindings
+abbrev pub ToldOffersStart : Type 0
+ToldOffersStart =
+    (history : History) (recipe : PlainRecipe) (binds : List Bind) (at : ℕ) (batch : List ℕ) → IsLegal history
+    → IsOrderly history → Contains (recipes_of history) recipe
+    → binding_of recipe.chart (candidates_in Docked history) ≡ Some binds → start_of history batch ≡ None
+    → length (filter is_start history) < MOST_BATCHES → is_full history ≡ false
+    → IsDone history (offered_start at batch recipe binds)

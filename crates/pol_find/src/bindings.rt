@@ -7,12 +7,13 @@ ghost use Rattle.pol_match.specs.Bindings.{AreInOrder};
 ghost use Rattle.pol_match.specs.Candidates.{plain_candidates};
 ghost use Rattle.pol_record.specs.Objects.{data_tokens};
 ghost use Rattle.pol_record.specs.Texts.{line_text, under_key};
-ghost use Rattle.pol_find.specs.Bindings.{bindings_text, told_of_each};
+ghost use Rattle.pol_find.specs.Bindings.{bindings_text};
+ghost use Rattle.pol_find.specs.Offers.{offers_of};
 ghost use Rattle.pol_find.specs.Recipes.{made_known};
 
-use crate::candidates::candidates;
+use crate::candidates::{Pool, candidates};
+use crate::offers::write_offer;
 use crate::recipes::made_known;
-use crate::told::write_told;
 use json::Writer;
 use pol_core::Plant;
 use pol_events::Entry;
@@ -21,7 +22,7 @@ use pol_record::ended_line;
 use std::alloc::{AllocError, Global};
 use std::mem;
 
-// Writes what is told of each recipe that these entries make known, as a list.
+// Writes what each recipe that these entries make known is offered, as a list.
 fn write_each(
     alloc: Global,
     writer: &mut Writer,
@@ -30,14 +31,14 @@ fn write_each(
 ) -> Result<(), AllocError>
     requires few { length candidates.now ≤ MOST_MODULES }
     requires order { AreInOrder (plain_candidates candidates.now) }
-    ensures tokens { OnOk result (writer.new.tokens ≡ writer.old.tokens ++ data_tokens (told_of_each
+    ensures tokens { OnOk result (writer.new.tokens ≡ writer.old.tokens ++ data_tokens (offers_of
         (plain_candidates candidates.now) (filter_map made_known (map plain_entry entries.now)))) }
     ensures before { writer.new.before ≡ writer.old.before }
 {
     writer.begin_array()?;
     for entry in entries {
         if let Some(recipe) = made_known(entry) {
-            write_told(alloc, writer, &recipe, candidates)?;
+            write_offer(alloc, writer, &recipe, candidates)?;
         }
     }
     writer.end_array()
@@ -54,7 +55,7 @@ fn write_bindings(
     requires few { length candidates.now ≤ MOST_MODULES }
     requires order { AreInOrder (plain_candidates candidates.now) }
     ensures tokens { OnOk result (writer.new.tokens ≡ writer.old.tokens ++ data_tokens (under_key (codes "bindings")
-        (told_of_each (plain_candidates candidates.now) (filter_map made_known (map plain_entry entries.now))))) }
+        (offers_of (plain_candidates candidates.now) (filter_map made_known (map plain_entry entries.now))))) }
     ensures before { writer.new.before ≡ writer.old.before }
 {
     writer.begin_object()?;
@@ -74,7 +75,7 @@ fn put_line(
     requires few { length candidates.now ≤ MOST_MODULES }
     requires order { AreInOrder (plain_candidates candidates.now) }
     ensures { OnOk result (out.new.items ≡ out.old.items ++ line_text (under_key (codes "bindings")
-        (told_of_each (plain_candidates candidates.now) (filter_map made_known (map plain_entry entries.now))))) }
+        (offers_of (plain_candidates candidates.now) (filter_map made_known (map plain_entry entries.now))))) }
 {
     let mut writer = Writer::new(mem::replace(out, Vec::new(alloc)));
     write_bindings(alloc, &mut writer, entries, candidates)?;
@@ -83,8 +84,8 @@ fn put_line(
 }
 
 /// Puts the line of the bindings behind what a buffer holds: of each recipe of the plant, in the order in which they
-/// were made known, the object that a finder writes of it for the modules that are free now. The line is a function of
-/// the plant's history.
+/// were made known, which modules a new batch could hold now and which it could watch, or that there are too few. A role
+/// without a step is watched, by any module that is docked. The line is a function of the plant's history.
 ///
 /// # Errors
 ///
@@ -93,6 +94,6 @@ pub fn put_bindings_line(alloc: Global, out: &mut Vec<u8>, plant: &Plant) -> Res
     ensures { OnOk result (out.new.items ≡ out.old.items ++ bindings_text (plant_history plant.now)) }
 {
     let history = plant.history();
-    let candidates = candidates(alloc, plant)?;
+    let candidates = candidates(alloc, plant, Pool::Docked)?;
     put_line(alloc, out, history, &candidates)
 }

@@ -2,22 +2,25 @@
 //!
 //! As a job it replays a journal, and writes of each accepted recipe, in order, what is told of it: the least binding of
 //! its chart to the modules that are free, or a shortage where there is none; and then how many lines were at fault
-//! (`specs/Found.antt`). Of a plant `put_bindings_line` tells the same in one line (`specs/Bindings.antt`). What is told
-//! is a function of the history (`specs/Told.antt`), and which modules are free is looked up in it
-//! (`specs/Candidates.antt`). It knows nothing of how a binding is found, which is `pol_match`'s. Its laws are that a
-//! start with a binding, and so with the one that is told, is done (`bindings_start`, `told_bindings_start`), and that
-//! there is always one thing to be written (`always_found`).
+//! (`specs/Found.antt`). What is told is a function of the history (`specs/Told.antt`), and which modules are free is
+//! looked up in it (`specs/Candidates.antt`). Of a plant `put_bindings_line` tells in one line what each recipe is
+//! offered (`specs/Offers.antt`, `specs/Bindings.antt`): the same, where each role has a step (`offers_are_told`); a role
+//! without one is to be watched, by any module that is docked. It knows nothing of how a binding is found, which is
+//! `pol_match`'s. Its laws are that a start with a binding, and so with the one that is told, is done (`bindings_start`,
+//! `told_bindings_start`, `offers_start`), and that there is always one thing to be written (`always_found`).
 //!
 //! Tried in `pol_examples`.
 #![tactic(auto)]
 
+ghost use Rattle.pol_find.specs.Bindings.{OffersAreTold};
 ghost use Rattle.pol_find.specs.Found.{AreFound, FindingsAreOne};
-ghost use Rattle.pol_find.specs.Starts.{BindingsStart, ToldBindingsStart};
+ghost use Rattle.pol_find.specs.Starts.{BindingsStart, OffersStart, ToldBindingsStart, ToldOffersStart};
 
 mod bindings;
 mod candidates;
 mod finding;
 mod lines;
+mod offers;
 mod recipes;
 mod telling;
 mod told;
@@ -35,6 +38,18 @@ pub fn bindings_start()
 /// were started and the history isn't full; and a line can say that start.
 pub fn told_bindings_start()
     ensures { ToldBindingsStart }
+{}
+
+/// So is one with a binding to the docked modules, of which it holds those whose roles have a step and watches the
+/// others, and so one with what the line of the bindings tells.
+pub fn offers_start()
+    ensures each { OffersStart }
+    ensures told { ToldOffersStart }
+{}
+
+/// In the line of the bindings a recipe whose roles all have a step has the object that the job writes of it.
+pub fn offers_are_told()
+    ensures { OffersAreTold }
 {}
 
 /// After every legal and orderly history there is such an output: each recipe has a least binding, or a shortage that

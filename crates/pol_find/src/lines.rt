@@ -4,6 +4,7 @@ ghost use Rattle.json.specs.Token as token;
 ghost use Rattle.pol_events.specs.ByRole.{by_role, with_bind};
 ghost use Rattle.event_json.specs.Written.{written_binds};
 ghost use Rattle.pol_record.specs.Objects.{data_tokens};
+ghost use Rattle.pol_record.specs.Texts.{watch_tokens};
 ghost use Rattle.pol_find.specs.Lines.{bad_object, bad_text, bind_object, names_data, short_object};
 
 use json::Writer;
@@ -81,6 +82,18 @@ pub(crate) fn write_bound(
     write_binds(writer, binds)?;
     write_text(writer, "recipe", recipe.as_str())?;
     writer.end_object()
+}
+
+/// Writes what could be watched, if anything could.
+pub(crate) fn write_watch(writer: &mut Writer, watches: &[Bind]) -> Result<(), AllocError>
+    ensures tokens { OnOk result (writer.new.tokens ≡ writer.old.tokens ++ watch_tokens watches.now) }
+    ensures before { writer.new.before ≡ writer.old.before }
+{
+    if watches.is_empty() {
+        return Ok(());
+    }
+    writer.key("watch")?;
+    write_binds(writer, watches)
 }
 
 /// Writes the object of a recipe that can't be bound: these roles fit these tags alone, which are fewer.

@@ -12,7 +12,7 @@ ghost use Rattle.pol_record.specs.Texts.{line_text};
 ghost use Rattle.pol_find.specs.Recipes.{made_known, plain_recipe};
 ghost use Rattle.pol_find.specs.Told.{AreToldRightly, told_of};
 
-use crate::candidates::candidates;
+use crate::candidates::{Pool, candidates};
 use crate::lines::bad_line;
 use crate::recipes::{Recipe, made_known};
 use crate::told::write_told;
@@ -101,7 +101,7 @@ pub(crate) fn close<K: Sink>(
     ensures cause { HasCauseOf PutFault.Write (K.faults sink.old) (K.faults sink.new) result }
 {
     let history = plant.history();
-    let candidates = candidates(alloc, plant)?;
+    let candidates = candidates(alloc, plant, Pool::Free)?;
     put_recipes(alloc, history, &candidates, sink)?;
     put(sink, &bad_line(alloc, bad)?)
 }

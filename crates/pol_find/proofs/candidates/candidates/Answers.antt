@@ -9,7 +9,7 @@ use Rattle.pol_table.specs.ByteOrder.{in_byte_order}
 use Rattle.pol_table.proofs.ByteOrder.{order_length}
 use Rattle.pol_core.specs.Plants.{plant_history}
 use Rattle.pol_match.specs.Candidates.{plain_candidate, plain_candidates}
-use Rattle.pol_find.specs.Candidates.{candidate_of, candidates_of}
+use Rattle.pol_find.specs.Candidates.{candidate_in, candidates_in}
 use Rattle.pol_find.proofs.Free.{present_few}
 use Rattle.pol_find.proofs.Looked.{cut_end, looked_next}
 use Rattle.pol_find.proofs.candidates.candidates.Goals as goal
@@ -50,8 +50,8 @@ loop-tag-preserved c =
           ∙ ap (λ found. before ++ cons_option (option_map plain_candidate found) []) (sym w.in_default-2.is)
     ] in
     record {
-      made = looked_next history tags c.loop-tag.place c.in-Some.tag found before
-          (plain_candidates c.match-branch-2.candidates.items) (candidates_of history) (sym c.in-Some.ensures)
+      made = looked_next (candidate_in c.args.pool history) tags c.loop-tag.place c.in-Some.tag found before
+          (plain_candidates c.match-branch-2.candidates.items) (candidates_in c.args.pool history) (sym c.in-Some.ensures)
           c.in_ok-candidate.ensures c.loop-tag.invariant.made told;
       low = let within = slice_get_within tags c.loop-tag.place c.in-Some.tag (sym c.in-Some.ensures) in omega arith;
     }
@@ -61,6 +61,6 @@ returns c =
     let history = plant_history c.args.plant.now in
     let done = plain_candidates c.loop-tag.candidates.items in
     sym (append-nil done)
-    ∙ ap (λ left. done ++ filter_map (candidate_of history) left)
+    ∙ ap (λ left. done ++ filter_map (candidate_in c.args.pool history) left)
     (sym (cut_end (in_byte_order (present_tags history)) c.loop-tag.place (sym c.tag_at.ensures ∙ c.in_default.is)))
     ∙ c.loop-tag.invariant.made

@@ -12,6 +12,7 @@ use Rattle.pol_find.specs.Found.{IsFound, TellsEach}
 use Rattle.pol_find.specs.Lines.{bad_text}
 use Rattle.pol_find.specs.Recipes.{PlainRecipe, recipes_of}
 use Rattle.pol_find.specs.Told.{AreToldRightly}
+use Rattle.pol_find.specs.declared.candidates.Pool.TheVariants.{Free}
 use Rattle.pol_find.proofs.Entries.{all_recipes, recipes_in}
 use Rattle.pol_find.proofs.Free.{candidates_few, candidates_in_order}
 use Rattle.pol_find.proofs.Possible.{all_rightly, can_be_found, some_bad, some_found}
@@ -38,13 +39,13 @@ put_recipes-requires-clause-few g c = omega (
   arith,
   ap length (ap plain_candidates c.deref.ensures.value ∙ c.in_ok-candidates.ensures),
   length-map c.deref.result.now plain_candidate,
-  candidates_few (plant_history c.args.plant.now) c.history-history.ensures.legal,
+  candidates_few Free (plant_history c.args.plant.now) c.history-history.ensures.legal,
 )
 
 pub put_recipes-requires-clause-order : goal.put_recipes-requires-clause-order
 put_recipes-requires-clause-order g c =
     subst AreInOrder (sym (ap plain_candidates c.deref.ensures.value ∙ c.in_ok-candidates.ensures))
-    (candidates_in_order (plant_history c.args.plant.now))
+    (candidates_in_order Free (plant_history c.args.plant.now))
 
 pub put_recipes-requires-clause-right : goal.put_recipes-requires-clause-right
 put_recipes-requires-clause-right g c =
