@@ -8,7 +8,7 @@ use Rattle.chart_core.specs.Roles.{PlainChart}
 use Rattle.chart_core.specs.Runs.{course_of, with_condition, word}
 use Rattle.chart_core.specs.Progress.{Marks, marks_of}
 use Rattle.chart_core.specs.Changes.{change_by, moved, marks_along}
-use Rattle.chart_core.specs.Standing.{AreAfter, marks_after}
+use Rattle.chart_core.specs.Standing.{AreAfter}
 use Rattle.chart_core.specs.declared.entry.LogEntry.{LogEntry}
 use Rattle.chart_core.specs.declared.progress.Progress.{Progress}
 use Rattle.chart_core.specs.declared.progress.Progress.TheVariants.{Untouched}

@@ -2,12 +2,16 @@
 use Rattle.std.specs.Option.{option_or}
 use Rattle.chart_cursor.specs.Sights.{Sights}
 use Rattle.chart_cursor.specs.OpenNodes.{OpenNode, phase_of, open_node_ready, first_next}
+use Rattle.chart_cursor.specs.declared.listing.RunningAt.{RunningAt}
+use Rattle.chart_cursor.specs.declared.listing.WaitingAt.{WaitingAt}
 use Rattle.chart_cursor.specs.declared.running.FirstRunning.{FirstRunning}
 use Rattle.chart_cursor.specs.declared.scanning.FirstReady.{FirstReady}
 use Rattle.chart_cursor.specs.Broken.{broken_node}
 use Rattle.chart_cursor.specs.Holding.{flag_at, is_unasked, hold_node, unhold_node}
 use Rattle.chart_cursor.specs.Running.{is_wanted, running_node}
 use Rattle.chart_cursor.specs.declared.both.Both.{Both}
+use Rattle.chart_cursor.specs.Listing.{running_at_node, waiting_node}
+use Rattle.chart_cursor.specs.Sought.{met}
 use Rattle.chart_cursor.specs.declared.breaking.FirstBroken.{FirstBroken}
 use Rattle.chart_cursor.specs.declared.holding.FirstHold.{FirstHold}
 use Rattle.chart_cursor.specs.declared.holding.FirstUnhold.{FirstUnhold}
@@ -61,3 +65,13 @@ look_unhold sights unhold spot =
           (unhold_node (sights unhold.seen.now) (flag_at unhold.held.now) spot.number spot.node
           (phase_of spot.progress));
     }
+
+-- the running step at a place
+abbrev pub look_running_at : RunningAt → OpenNode → RunningAt
+look_running_at running spot =
+    record { from = running.from; sought = met (running_at_node running.from spot) running.sought }
+
+-- the awaited node at a place among those that aren't ready
+abbrev pub look_waiting_at : {S : Type 0} → (S → Sights) → WaitingAt S → OpenNode → WaitingAt S
+look_waiting_at sights waiting spot =
+    record { seen = waiting.seen; sought = met (waiting_node (sights waiting.seen.now) spot) waiting.sought }

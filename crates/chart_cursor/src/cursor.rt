@@ -1,5 +1,5 @@
 //! A cursor over a chart.
-ghost use Rattle.std.specs.Prelude.{◌≡◌, ◌++◌, ◌∷◌, [], List, map, IfOk, Some, None};
+ghost use Rattle.std.specs.Prelude.{◌≡◌, ◌++◌, ◌∷◌, [], List, map, nat_le, IfOk, Some, None};
 ghost use Rattle.chart_core.specs.Active.{active_steps};
 ghost use Rattle.chart_core.specs.Charts.{plain_chart};
 ghost use Rattle.chart_core.specs.Valid.{IsValid};
@@ -14,10 +14,12 @@ ghost use Rattle.chart_cursor.specs.Next.{IsNext, ready_after, next_after};
 ghost use Rattle.chart_cursor.specs.Logs.{active};
 ghost use Rattle.chart_cursor.specs.Holding.{flag_at, is_unasked, numbered, under_way};
 ghost use Rattle.chart_cursor.specs.NextEntry.{first_broken, first_hold, first_unhold};
+ghost use Rattle.chart_cursor.specs.Listing.{told_running, waits_after};
 ghost use Rattle.chart_cursor.specs.Running.{is_wanted, first_placed, name_of, placed_of};
 
 use super::going::broken_and_next;
 use super::holding::{first_hold, first_unhold};
+use super::listing::{WaitingNode, running_steps, waiting_nodes};
 use super::next::CursorNext;
 use super::running::{RunningStep, first_running, name_alone, placed_alone};
 use super::scanning::scan;
@@ -177,6 +179,38 @@ impl Cursor {
             (numbered (flag_at held.now) (active_steps (plain_chart self.now.chart) word)))) }
     {
         first_unhold(&self.chart.root, 0, &self.marks, &self.sizes, seen, held)
+    }
+
+    /// The active steps whose nodes are at least `from`, in chart order. Walks the chart's nodes once for each of them,
+    /// and once more.
+    ///
+    /// # Errors
+    ///
+    /// AllocError where memory is wanting for them.
+    pub fn active_steps(&self, alloc: Global, from: u32) -> Result<Vec<RunningStep>, AllocError>
+        ensures { (word : List LogEntry) → StandsFor (plain_chart self.now.chart) self.now.marks word
+            → IfOk result (λ steps. steps.items
+            ≡ told_running (numbered (nat_le from) (active_steps (plain_chart self.now.chart) word))) }
+    {
+        running_steps(alloc, &self.chart.root, 0, &self.marks, &self.sizes, from)
+    }
+
+    /// The awaited nodes that aren't ready, by what is seen of the modules, each with what stands in its way, in chart
+    /// order. Walks the chart's nodes once for each of them, and once more.
+    ///
+    /// # Errors
+    ///
+    /// AllocError where memory is wanting for them.
+    pub fn waiting_nodes<S: Seen>(
+        &self,
+        alloc: Global,
+        seen: &S,
+    ) -> Result<Vec<WaitingNode>, AllocError>
+        ensures { (word : List LogEntry) → StandsFor (plain_chart self.now.chart) self.now.marks word
+            → IfOk result (λ nodes. nodes.items
+            ≡ waits_after (plain_chart self.now.chart) word (S.sights seen.now)) }
+    {
+        waiting_nodes(alloc, &self.chart.root, 0, &self.marks, &self.sizes, seen)
     }
 
     /// The first active step whose node is at least `from`, with the node's number; None where there is no such active

@@ -20,11 +20,13 @@ mod cursor;
 mod going;
 mod holding;
 mod laws;
+mod listing;
 mod next;
 mod ready;
 mod running;
 mod scanning;
 mod sight;
+mod sought;
 mod stopping;
 mod visitor;
 mod walking;
@@ -33,8 +35,10 @@ pub use breaking::broken_step;
 pub use cursor::Cursor;
 pub use holding::{hold_step, unhold_step};
 pub use laws::{
-    next_commands_are_permitted, next_follows_the_chart, next_keeps_the_run, steps_are_of_the_chart,
+    next_commands_are_permitted, next_follows_the_chart, next_keeps_the_run,
+    steps_are_of_the_chart, waits_are_awaited,
 };
+pub use listing::WaitingNode;
 pub use next::{CursorNext, run_next};
 pub use running::RunningStep;
 pub use scanning::earlier;

@@ -55,7 +55,8 @@ struct FirstRunning {
     found: Option<RunningStep>,
 }
 
-fn running_step(
+/// The step, where it has come so far that it runs, from a number on, and is of the role where one is given.
+pub fn running_step(
     step: &Step,
     number: u32,
     progress: Progress,

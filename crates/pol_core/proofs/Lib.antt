@@ -24,3 +24,4 @@ pub mod Asking
 pub mod Ending
 pub mod Docked
 pub mod Looked
+pub mod Listed

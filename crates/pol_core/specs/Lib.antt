@@ -10,3 +10,4 @@ pub mod Exchanges
 pub mod Calls
 pub mod Commands
 pub mod Plants
+pub mod Steps

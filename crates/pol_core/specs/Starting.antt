@@ -1,5 +1,5 @@
 -- What a start changes in the tables.
-use Rattle.std.specs.Prelude.{ℕ, ◌≡◌, ◌+◌, IsSome, length, true, false, List, [], ◌∷◌, ◌++◌, Some, None, if◌then◌else◌}
+use Rattle.std.specs.Prelude.{ℕ, ◌≡◌, ◌+◌, IsSome, length, true, List, [], ◌∷◌, ◌++◌, Some, None, if◌then◌else◌}
 use Rattle.std.specs.Prelude.{Ok}
 use Rattle.std.specs.Map.{keys_of, lookup}
 use Rattle.std.specs.Option.{option_map}

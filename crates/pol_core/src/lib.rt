@@ -21,9 +21,11 @@ mod settings;
 mod standing;
 mod started;
 mod starting;
+mod steps;
 
 pub use commands::Sent;
 pub use docking::Docking;
 pub use plant::Plant;
 pub use standing::Standing;
 pub use started::Started;
+pub use steps::ActiveStep;

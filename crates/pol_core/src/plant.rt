@@ -1,5 +1,5 @@
 //! The plant, seen as its entries and the room for more.
-ghost use Rattle.std.specs.Prelude.{◌≡◌, ◌≢◌, ℕ, ◌<◌, ◌≤◌, ◌+◌, ◌++◌, ◌∷◌, [], drop, length, map, option_copied};
+ghost use Rattle.std.specs.Prelude.{◌≡◌, ◌≢◌, ℕ, ◌<◌, ◌≤◌, ◌+◌, ◌++◌, ◌∷◌, [], drop, filter, length, map, option_copied};
 ghost use Rattle.std.specs.Prelude.{slice_get, Some, IfNone, IfSome, IfOk, IfErr, IsOk, IsTrue, OnOk, OnErr, vec_len};
 ghost use Rattle.std.specs.Prelude.{is_some, option_map, vec_capacity};
 ghost use Rattle.mtp_desc.specs.PlainDescription.{plain_description};
@@ -7,7 +7,7 @@ ghost use Rattle.pol_events.specs.Events.{plain_entry, plain_event, plain_histor
 ghost use Rattle.pol_events.specs.Events.{start};
 ghost use Rattle.pol_events.specs.Orderly.{is_orderly};
 ghost use Rattle.pol_history.specs.Answers.{answer_of};
-ghost use Rattle.pol_history.specs.Batches.{batches, chart_named, holder_of, start_of, watchers_of};
+ghost use Rattle.pol_history.specs.Batches.{batches, chart_named, holder_of, is_start, start_of, watchers_of};
 ghost use Rattle.pol_history.specs.Looking.{past, recipes};
 ghost use Rattle.pol_history.specs.Modules.{absent, description_of, docking_of, present_tags, value_by, view_of};
 ghost use Rattle.pol_history.specs.Runs.{entry_of, recorded, IsLegal, IsOrderly};
@@ -16,6 +16,7 @@ ghost use Rattle.pol_core.specs.Calls.{refused_first, settings_of, standing_of, 
 ghost use Rattle.pol_core.specs.Commands.{next_sent};
 ghost use Rattle.pol_core.specs.Plants.{is_spared, plant_history};
 ghost use Rattle.pol_core.specs.Recipes.{names_in};
+ghost use Rattle.pol_core.specs.Steps.{active_of, waits_of};
 ghost use Rattle.pol_table.specs.ByteOrder.{in_byte_order};
 
 use crate::answering::answer_event;
@@ -24,11 +25,12 @@ use crate::docking::Docking;
 use crate::exchanges::{begin_rule, begin_ticket, end_rule};
 use crate::recipes::{knows_recipe, recipe_at, recipe_count};
 use crate::standing::{Standing, batch_standing};
-use crate::started::{Started, batch_at, batch_start};
+use crate::started::{Started, batch_at, batch_count, batch_start};
 use crate::starting::start_rule;
+use crate::steps::{ActiveStep, active_steps, waiting_nodes};
 use crate::{batches, modules};
 use chart_core::{Chart, Next};
-use chart_cursor::Sight;
+use chart_cursor::{Sight, WaitingNode};
 use indexmap::IndexMap;
 use mtp_codes::{LONGEST_HISTORY, Name, Setting, Value};
 use mtp_desc::Description;
@@ -350,6 +352,36 @@ impl Plant {
         ensures { result ≡ slice_get (batches (plant_history self.now)) place }
     {
         batch_at(&self.runs, place)
+    }
+
+    /// How many batches were started: at most 128.
+    pub fn batch_count(&self) -> usize
+        ensures { result ≡ length (filter is_start (plant_history self.now)) }
+    {
+        batch_count(&self.runs)
+    }
+
+    /// The active steps of a batch in chart order; none where it wasn't started.
+    ///
+    /// # Errors
+    ///
+    /// AllocError where memory is wanting for them.
+    pub fn active_steps(&self, alloc: Global, batch: Name) -> Result<Vec<ActiveStep>, AllocError>
+        ensures { IfOk result (λ steps. steps.items ≡ active_of (plant_history self.now) batch) }
+    {
+        active_steps(alloc, &self.runs, batch)
+    }
+
+    /// The awaited nodes of a batch that aren't ready, each with what stands in its way, in chart order; none where the
+    /// batch wasn't started, broke, or is to be stopped.
+    ///
+    /// # Errors
+    ///
+    /// AllocError where memory is wanting for them.
+    pub fn waiting_nodes(&self, alloc: Global, batch: Name) -> Result<Vec<WaitingNode>, AllocError>
+        ensures { IfOk result (λ nodes. nodes.items ≡ waits_of (plant_history self.now) batch) }
+    {
+        waiting_nodes(alloc, &self.modules, &self.runs, batch)
     }
 
     /// How a batch stands; None exactly where it wasn't started.

@@ -1,5 +1,5 @@
 //! What a batch was started with.
-ghost use Rattle.std.specs.Prelude.{◌≡◌, option_map, slice_get};
+ghost use Rattle.std.specs.Prelude.{◌≡◌, length, option_map, slice_get};
 ghost use Rattle.std.specs.Map.{keys_of};
 ghost use Rattle.pol_history.specs.Batches.{start_of};
 ghost use Rattle.pol_history.specs.Looking.{History};
@@ -41,4 +41,11 @@ pub fn batch_at(runs: &IndexMap<Name, Run>, place: u32) -> Option<Name>
 {
     let (batch, _) = runs.get_index(place as usize)?;
     Some(*batch)
+}
+
+/// How many batches were started.
+pub fn batch_count(runs: &IndexMap<Name, Run>) -> usize
+    ensures { result ≡ length runs.now.entries }
+{
+    runs.len()
 }

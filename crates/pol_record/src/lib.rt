@@ -22,7 +22,9 @@ mod records;
 mod rows;
 mod verdicts;
 
-pub use answers::{entry_fields, obstacle_fields, outcome_name, refusal_fields, write_entry};
+pub use answers::{
+    entry_fields, obstacle_fields, outcome_name, refusal_fields, write_answer, write_entry,
+};
 pub use batches::{batch_line, batch_log, gathered_line, write_binds, write_text};
 pub use entry_lines::{entry_line, event_text, put_entry_line};
 pub use faults::kind_name;
@@ -30,4 +32,5 @@ pub use gathering::{BatchRecords, gather};
 pub use lines::{answer_line, end_line, ended_line, fault_line, put_answer_line, put_fault_line};
 pub use objects::write_scalar;
 pub use records::{BatchRecord, Start, starting};
+pub use rows::forbid_name;
 pub use verdicts::{Verdict, verdict_line};

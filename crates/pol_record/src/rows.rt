@@ -104,7 +104,8 @@ pub fn entry_row(entry: &LogEntry) -> Row<'_>
     }
 }
 
-fn forbid_name(forbid: Forbid) -> &'static str
+/// The name of why a command is forbidden.
+pub fn forbid_name(forbid: Forbid) -> &'static str
     ensures { result.now ≡ forbid_name forbid }
 {
     match forbid {

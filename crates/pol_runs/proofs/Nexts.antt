@@ -1,5 +1,5 @@
 -- What the code finds is what comes next, for every log that the run stands for.
-use Rattle.std.proofs.Common.{◌≡◌, ℕ, Bool, true, false, cond, List, [], ◌∷◌, map, Option, Some, None, refl, ap, sym}
+use Rattle.std.proofs.Common.{◌≡◌, ◌⊎◌, inl, inr, ℕ, Bool, true, false, cond, List, [], ◌∷◌, map, Option, Some, None, refl, ap, sym}
 use Rattle.std.proofs.Common.{◌∙◌}
 use Rattle.std.specs.Prelude.{not, ◌&&◌, nat_le, option_map}
 use Rattle.std.proofs.lemmas.Bool.{and_right}
@@ -8,6 +8,7 @@ use Rattle.chart_core.specs.Charts.{plain_chart}
 use Rattle.chart_core.specs.Trees.{Placed, PlainStep, steps}
 use Rattle.chart_core.specs.declared.entry.LogEntry.{LogEntry}
 use Rattle.chart_cursor.specs.Holding.{flag_at, is_unasked, numbered, under_way}
+use Rattle.chart_cursor.specs.Listing.{waits_after}
 use Rattle.chart_cursor.specs.Logs.{chart_entries, active, has_broken, was_stopped, was_held}
 use Rattle.chart_cursor.specs.Next.{next_after}
 use Rattle.chart_cursor.specs.NextEntry.{stop_next, first_broken, first_hold, unasked, is_under_way, owed, first_unhold}
@@ -24,6 +25,7 @@ use Rattle.pol_events.proofs.Played.{plays, plays_none}
 use Rattle.pol_runs.specs.Logs.{Asks, Follows, Proceeds}
 use Rattle.pol_runs.specs.Runs.{PlainRun, from_of, is_breaking, is_stopping}
 use Rattle.pol_runs.specs.Stopping.{stop_found}
+use Rattle.pol_runs.specs.Waits.{waits_by}
 use Rattle.pol_runs.specs.declared.course.Course.TheVariants.{Running, Breaking, Stopping}
 use Rattle.pol_runs.proofs.Wanted.{first_step, late, from_zero, filter_same, filter_twice, mapped_filter, wanted_late}
 use Rattle.pol_runs.proofs.Wanted.{wanted_first}
@@ -42,6 +44,25 @@ actives run log proceeds =
     filter_same (is_active log)
     (λ placed. nat_le (from_of run.course) placed.number && is_active (chart_entries log) placed)
     (steps (plain_chart run.chart).root 0) proceeds.active
+
+-- all of them, as the cursor lists them
+pub all_active : (run : PlainRun) (log : List LogEntry) → Proceeds run log →
+    numbered (nat_le (from_of run.course)) (active_steps (plain_chart run.chart) (chart_entries log))
+    ≡ active_steps (plain_chart run.chart) log
+all_active run log proceeds =
+    filter_twice (is_active (chart_entries log)) (λ placed. nat_le (from_of run.course) placed.number)
+    (steps (plain_chart run.chart).root 0)
+    ∙ filter_same (λ placed. is_active (chart_entries log) placed && nat_le (from_of run.course) placed.number)
+    (λ placed. nat_le (from_of run.course) placed.number && is_active (chart_entries log) placed)
+    (steps (plain_chart run.chart).root 0)
+    (λ placed inside. turned (is_active (chart_entries log) placed) (nat_le (from_of run.course) placed.number))
+    ∙ sym (actives run log proceeds)
+  where
+    turned : (one other : Bool) → one && other ≡ other && one
+    turned true true = refl
+    turned true false = refl
+    turned false true = refl
+    turned false false = refl
 
 -- the first of them, as the cursor finds it
 pub first_active : (run : PlainRun) (log : List LogEntry) → Proceeds run log →
@@ -202,3 +223,25 @@ no_steps binds tag none (placed ∷ each) =
     ap (λ own. cond own (Some placed.step) (step_on binds tag (map (λ placed. placed.step) each)))
     (plays_none binds tag none placed.step.role)
     ∙ no_steps binds tag none each
+
+-- ---- what its nodes wait for
+
+-- in a batch that runs on they wait as those of the chart's run
+pub running_waits : (run : PlainRun) (log : List LogEntry) (seen : Sights) → Proceeds run log → run.course ≡ Running →
+    waits_after (plain_chart run.chart) (chart_entries log) seen ≡ waits_by (plain_chart run.chart) log seen
+running_waits run log seen proceeds is =
+    let broke : has_broken log ≡ false = proceeds.broke ∙ ap is_breaking is in
+    let stopped : was_stopped log ≡ false = proceeds.stopped ∙ ap is_stopping is in
+    rw (broke, stopped) refl
+
+-- in one that broke or was to be stopped none does
+pub halted_waits : (run : PlainRun) (log : List LogEntry) (seen : Sights) → Proceeds run log →
+    ((from : ℕ) × (run.course ≡ Breaking from)) ⊎ ((from : ℕ) × (run.course ≡ Stopping from)) →
+    [] ≡ waits_by (plain_chart run.chart) log seen
+halted_waits run log seen proceeds (inl (from, is)) =
+    let broke : has_broken log ≡ true = proceeds.broke ∙ ap is_breaking is in
+    rw broke refl
+halted_waits run log seen proceeds (inr (from, is)) =
+    let broke : has_broken log ≡ false = proceeds.broke ∙ ap is_breaking is in
+    let stopped : was_stopped log ≡ true = proceeds.stopped ∙ ap is_stopping is in
+    rw (broke, stopped) refl

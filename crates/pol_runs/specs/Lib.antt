@@ -3,3 +3,4 @@ pub mod Freezes
 pub mod Runs
 pub mod Logs
 pub mod Stopping
+pub mod Waits

@@ -10,6 +10,7 @@ ghost use Rattle.chart_core.specs.declared.entry.LogEntry.{LogEntry};
 ghost use Rattle.chart_core.specs.declared.entry.LogEntry.TheVariants.{StopAsked};
 ghost use Rattle.chart_core.specs.declared.next.Next.TheVariants.{Did};
 ghost use Rattle.chart_core.specs.declared.next.Outcome.TheVariants.{Abandoned};
+ghost use Rattle.chart_cursor.specs.Listing.{told_running};
 ghost use Rattle.chart_cursor.specs.Logs.{active, has_broken, was_stopped};
 ghost use Rattle.chart_cursor.specs.NextEntry.{next_by};
 ghost use Rattle.chart_cursor.specs.Running.{first_placed, is_wanted, name_of};
@@ -18,6 +19,7 @@ ghost use Rattle.pol_events.specs.Bound.{ArePaired, step_on};
 ghost use Rattle.pol_runs.specs.Freezes.{is_frozen, is_holding, frozen_as, freezing};
 ghost use Rattle.pol_runs.specs.Logs.{Asks, Follows, asked_after, closing_in, log_after};
 ghost use Rattle.pol_runs.specs.Runs.{SameBatch};
+ghost use Rattle.pol_runs.specs.Waits.{waits_by};
 ghost use Rattle.pol_runs.specs.declared.freeze.Freeze.TheVariants.{Thawed};
 
 use super::course::Course;
@@ -25,7 +27,7 @@ use super::freeze::Freeze;
 use super::holds::{Holds, is_hold};
 use super::next::{behind, go_on, hold_on, stop_found};
 use chart_core::{Chart, LogEntry, Next, Outcome, Why};
-use chart_cursor::{Cursor, Seen};
+use chart_cursor::{Cursor, RunningStep, Seen, WaitingNode};
 use mtp_codes::Name;
 use pol_events::{Bind, Rule, bound_role};
 use std::alloc::{AllocError, Global};
@@ -389,6 +391,39 @@ impl Run {
         ensures { result.now ≡ drop self.now.held self.now.binds }
     {
         &self.binds[self.held.min(self.binds.len())..]
+    }
+
+    /// The active steps in chart order. Walks the chart's nodes once for each of them, and once more.
+    ///
+    /// # Errors
+    ///
+    /// AllocError where memory is wanting for them.
+    pub fn active_steps(&self, alloc: Global) -> Result<Vec<RunningStep>, AllocError>
+        ensures { (log : List LogEntry) → Follows self.now log → IfOk result (λ steps. steps.items
+            ≡ told_running (active_steps (plain_chart self.now.chart) log)) }
+    {
+        self.cursor.active_steps(alloc, self.course.first_number())
+    }
+
+    /// The awaited nodes that aren't ready, by what is seen of the modules, each with what stands in its way, in chart
+    /// order; none where the batch broke or is to be stopped. Walks the chart's nodes once for each of them, and once
+    /// more.
+    ///
+    /// # Errors
+    ///
+    /// AllocError where memory is wanting for them.
+    pub fn waiting_nodes<S: Seen>(
+        &self,
+        alloc: Global,
+        seen: &S,
+    ) -> Result<Vec<WaitingNode>, AllocError>
+        ensures { (log : List LogEntry) → Follows self.now log → IfOk result (λ nodes. nodes.items
+            ≡ waits_by (plain_chart self.now.chart) log (S.sights seen.now)) }
+    {
+        match self.course {
+            Course::Running => self.cursor.waiting_nodes(alloc, seen),
+            Course::Breaking { .. } | Course::Stopping { .. } => Ok(Vec::new(alloc)),
+        }
     }
 
     /// The first active step of the role in chart order; None where there is none. Walks the chart's nodes once, and

@@ -1,11 +1,10 @@
 -- A batch's freeze begins.
-use Rattle.std.proofs.Common.{◌∙◌, ◌∷◌, [], sym, ap, refl, subst}
+use Rattle.std.proofs.Common.{◌∷◌, [], sym, refl, subst}
 use Rattle.std.proofs.lemmas.Result.{on_ok_weaker, on_err_weaker}
 use Rattle.pol_events.specs.Events.{freeze}
 use Rattle.pol_history.specs.Looking.{past_of_batch}
 use Rattle.pol_history.specs.Rules.{already_frozen}
 use Rattle.pol_core.specs.Batches.{AnswersBatch}
-use Rattle.pol_core.specs.Seats.{done_or_refused}
 use Rattle.pol_core.proofs.Lasting.{not_open_answered, freeze_answered}
 use Rattle.pol_core.proofs.batches.freeze.Goals as goal
 

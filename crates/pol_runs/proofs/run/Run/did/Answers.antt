@@ -6,7 +6,7 @@ use Rattle.chart_core.specs.declared.entry.LogEntry.{LogEntry}
 use Rattle.chart_core.specs.declared.next.Next.TheVariants.{Did}
 use Rattle.chart_cursor.specs.Logs.{chart_entries}
 use Rattle.chart_cursor.specs.Sights.{Sights}
-use Rattle.pol_runs.specs.Holds.{HaveRoom, Moves, is_hold}
+use Rattle.pol_runs.specs.Holds.{HaveRoom, Moves}
 use Rattle.pol_runs.specs.Logs.{Asks, Follows, asked_after}
 use Rattle.pol_runs.specs.Runs.{PlainRun}
 use Rattle.pol_runs.specs.contracts.run.Run.{the_view}

@@ -1,0 +1,12 @@
+-- So many of them are listed as places were looked at.
+use Rattle.std.proofs.Common.{◌≡◌, take}
+use Rattle.chart_core.specs.Trees.{plain_node}
+use Rattle.chart_core.specs.Progress.{marks_of}
+use Rattle.chart_cursor.specs.Listing.{waiting_among}
+use Rattle.chart_cursor.specs.OpenNodes.{open_nodes}
+use Rattle.chart_cursor.proofs.listing.waiting_nodes.Given as goal
+
+abbrev pub invariant-loop-place : goal.invariant-loop-place
+invariant-loop-place g l =
+    l.nodes.items ≡ take l.place (waiting_among (g.S.Seen.sights l.seen)
+    (open_nodes (plain_node l.node) l.number (marks_of l.marks)))
