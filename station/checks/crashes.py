@@ -4,6 +4,7 @@ import collections
 import os
 import random
 import signal
+import threading
 import time
 import unittest
 
@@ -14,8 +15,10 @@ from checks.broker import PATIENCE
 DONE = {"done": True}
 # Slower than other tests: what is killed has to be back before too many states passed.
 FASTER = 4
-# In seconds: the longest time between two kills.
-LONGEST = 1.5
+# In seconds: the longest time between two kills, and how long a renewal may take at most.
+LONGEST, RENEWS = 1.5, 2.0
+# In how many batches the file is renewed: it takes 128.
+MOST_BATCHES = 80
 # The modules of each recipe, and the services that its steps start.
 RECIPES = {"charge": {"source": "DOS2"}, "refill": {"tank": "TNK1"}, "blend": {"doser": "DOS1", "mixer": "MIX1"}}
 STEPS = {"charge": [("DOS2", "dose")], "refill": [("TNK1", "fill")],
@@ -60,15 +63,13 @@ class Crashes(unittest.TestCase):
     def check(self):
         """Each batch has each of its entries once, and each service was started once for each start in the history."""
         self.assertEqual(self.plant.kill(signal.SIGTERM), 0)
-        entries = self.plant.entries()
-        self.assertEqual([each for each in entries if "wait" in each["answer"]], [])
-        refused = [each for each in entries if "refused" in each["answer"] and each["answer"]["rule"] != "NotAnEdge"]
-        self.assertEqual(refused, [])
-        dids = collections.defaultdict(collections.Counter)
-        for each in entries:
-            if "did" in each["answer"] or "closed" in each["answer"]:
-                did = each["answer"].get("did", {}).get("do")
-                dids[each["event"]["batch"]][did or each["answer"]["closed"]] += 1
+        dids = {}
+        for entries in self.plant.files():
+            self.assertEqual([each for each in entries if "wait" in each["answer"]], [])
+            refused = [each for each in entries if each["answer"].get("rule", "NotAnEdge") != "NotAnEdge"]
+            self.assertEqual(refused, [])
+            # An open batch has its whole log in the next file too.
+            dids |= dids_of(entries)
         self.assertEqual(dids, {f"{recipe}-{number}": counts_of(recipe) for recipe, count in self.batches.items()
                                 for number in range(count)})
         starts = collections.Counter(key for recipe, count in self.batches.items() for key in STEPS[recipe] * count)
@@ -88,13 +89,28 @@ class Crashes(unittest.TestCase):
         self.plant.broker.stop()
         self.plant.broker.start()
 
+    def renew(self):
+        """Has the file renewed, in which so many batches were started that soon no other one may be."""
+        self.assertEqual(self.plant.do("renew")["station"], "renewed")
+        self.full += MOST_BATCHES
+
+    def kill_while_it_renews(self):
+        """Kills the station in the midst of a renewal, which goes on to its end or wasn't begun."""
+        asked = threading.Thread(target=self.plant.ask_and_lose, args=("renew",))
+        asked.start()
+        time.sleep(self.chance.uniform(0, RENEWS))
+        self.kill_station()
+        asked.join(PATIENCE)
+
     def kill_all(self, kinds, kills, seed):
         """Kills at random moments, of a seed that a failure can be tried again with."""
-        chance = random.Random(seed)
+        self.chance, self.full = random.Random(seed), MOST_BATCHES
         for _ in range(kills):
             self.start_all()
-            time.sleep(chance.uniform(0, LONGEST))
-            chance.choice(kinds)()
+            time.sleep(self.chance.uniform(0, LONGEST))
+            self.chance.choice(kinds)()
+            if self.batches.total() > self.full:
+                self.renew()
         self.finish()
         self.check()
 
@@ -107,8 +123,12 @@ class Crashes(unittest.TestCase):
     def test_a_broker_that_is_ended(self):
         self.kill_all([self.kill_broker], reading.KILLS // 3, reading.SEED)
 
+    def test_a_station_that_is_killed_while_its_file_is_renewed(self):
+        self.kill_all([self.kill_while_it_renews], reading.KILLS, reading.SEED)
+
     def test_each_of_them_in_turn(self):
-        self.kill_all([self.kill_station, self.kill_program, self.kill_broker], reading.KILLS, reading.SEED)
+        self.kill_all([self.kill_station, self.kill_program, self.kill_broker, self.kill_while_it_renews],
+                      reading.KILLS, reading.SEED)
 
     def test_a_station_that_is_away_while_a_step_ends(self):
         self.start_all()
@@ -143,6 +163,16 @@ class Crashes(unittest.TestCase):
         live = self.plant.live()
         self.assertEqual([each["tag"] for each in live.told["absent"]], ["DOS2"])
         self.assertEqual(len(live.told["modules"]), len(TAGS) - 1)
+
+
+def dids_of(entries):
+    """How often each batch does each thing, and how it is closed."""
+    dids = collections.defaultdict(collections.Counter)
+    for each in entries:
+        if "did" in each["answer"] or "closed" in each["answer"]:
+            did = each["answer"].get("did", {}).get("do")
+            dids[each["event"]["batch"]][did or each["answer"]["closed"]] += 1
+    return dids
 
 
 def counts_of(recipe):

@@ -1,5 +1,6 @@
 """station/demo as it is called by hand, and many modules for as long as is asked for."""
 import json
+import os
 import pathlib
 import re
 import signal
@@ -69,9 +70,10 @@ class Demo(unittest.TestCase):
 
     def test_the_files_of_a_site_are_those_that_the_page_names(self):
         page = (STATION / "PLANT.md").read_text()
-        for name in ("site.json", "policy.json", "packages/", "recipes/", "pol.plant", "station.jsonl", "denied.jsonl"):
+        for name in ("site.json", "policy.json", "packages/", "recipes/", "pol.plant", "station.jsonl", "denied.jsonl",
+                     "archive/"):
             self.assertIn(f"| `{name}` |", page)
-            self.assertTrue(name.startswith(("pol", "station", "denied", "packages", "policy"))
+            self.assertTrue(name.startswith(("pol", "station", "denied", "packages", "policy", "archive"))
                             or (STATION / "example" / name).exists(), name)
 
 
@@ -102,7 +104,8 @@ class Many(unittest.TestCase):
         late = statistics.quantiles(seconds, n=100)[-1]
         per_second = (live.told["entries"] - count) / (60 * reading.MINUTES)
         print(f"{MANY} modules, {len(seconds)} answers: half within {statistics.median(seconds) * 1000:.0f} ms, 99 of 100 "
-              f"within {late * 1000:.0f} ms; {per_second:.0f} entries a second")
+              f"within {late * 1000:.0f} ms; {per_second:.0f} entries a second, load {os.getloadavg()[0]:.1f} "
+              f"on {os.cpu_count()} processors")
         self.assertEqual(live.alarms(), {})
         self.assertLess(late, MOST_SECONDS)
         self.assertTrue(pathlib.Path(plant.site.folder / "pol.plant").exists())

@@ -198,6 +198,6 @@ class Orders(unittest.TestCase):
         with open(self.parts.notes.path, "a", encoding="utf-8") as file:
             file.write('{"sends":[1,')
         self.parts.notes = Notes(self.parts.notes.path.parent)
-        self.assertEqual(self.parts.notes.sent, {(order.place, order.at): LIFE})
+        self.assertEqual(self.parts.notes.sent, {order.name: LIFE})
         self.assertEqual(self.parts.notes.lives, {TAG: LIFE})
         self.parts.notes.begin([order])

@@ -25,6 +25,16 @@ FIELDS = """[...document.querySelectorAll('[data-key^="recipe "]')].filter(each 
     Object.fromEntries([...each.querySelectorAll('select')].map(own => [own.dataset.role, own.value]))))
     .map(each => each.dataset.key)"""
 WIDE, NARROW, TALL = 1280, 390, 1400
+# Whether a line over time is there and has some of a colour in it.
+DRAWN = """(() => { const canvas = %s?.querySelector('canvas'); if (!canvas) return false;
+    const wanted = getComputedStyle(document.documentElement).getPropertyValue('--%s').trim().slice(1);
+    const { width, height } = canvas, copy = new OffscreenCanvas(width || 1, height || 1);
+    const g = copy.getContext('2d', { willReadFrequently: true });
+    if (width && height) g.drawImage(canvas, 0, 0);
+    const { data } = g.getImageData(0, 0, copy.width, copy.height);
+    const parts = [0, 2, 4].map(at => parseInt(wanted.slice(at, at + 2), 16));
+    for (let at = 0; at < data.length; at += 4) if (parts.every((part, k) => data[at + k] === part)) return true;
+    return false; })()"""
 # How light a colour is, and how far text stands off its ground (WCAG 2).
 CONTRAST = """(() => {
   const parts = text => text.match(/[\\d.]+/g).map(Number);
@@ -123,7 +133,7 @@ class Pages(unittest.TestCase):
                 found[as_deed(do="choose", **at, word=word)] = service["may_choose"]
         for recipe in live.told["recipes"]:
             found[start_of(recipe)] = recipe["why"] is None
-        return found
+        return found | {as_deed(do="renew"): live.told["renew"] is None}
 
     def ask_buttons(self, by):
         """Waits until the page's buttons are enabled exactly as they should be; both go on meanwhile."""
@@ -235,18 +245,97 @@ class Pages(unittest.TestCase):
         plant.until_alarm("gone", False)
 
     def test_each_width_language_and_light(self):
+        """With a chart and lines over time."""
+        self.plant.start("wide", "blend", doser="DOS1", mixer="MIX1")
+        self.plant.until_state("DOS1", "dose", "Execute")
+        self.plant.do("hold", batch="wide")
+        self.plant.until_state("DOS1", "dose", "Held")
+        self.look_at_each_width()
+        self.plant.do("thaw", batch="wide")
+        self.plant.until_closed("wide")
+
+    def look_at_each_width(self):
         for wide in (WIDE, NARROW):
             for dark in (False, True):
                 for language, title in (("en", "What stands still"), ("de", "Was steht")):
                     self.page.open(wide, dark)
                     self.page.run(f"if (document.documentElement.lang !== '{language}')"
                                   " document.getElementById('language').click()")
+                    self.page.until("document.querySelectorAll('[data-chart] .step.held').length")
+                    self.page.until("document.querySelectorAll('.trend').length || innerWidth < 500")
                     self.page.browser.settle()
                     self.assertIn(title, self.page.text("still"))
                     self.assertLessEqual(self.page.run("document.documentElement.scrollWidth"), wide)
                     self.assertEqual(self.page.run(CONTRAST), [], (wide, dark))
         self.page.run("document.getElementById('language').click()")
         self.assertEqual(self.page.run("document.documentElement.lang"), "en")
+
+    # What is drawn.
+
+    def phase(self, batch, step):
+        """What a step is in, as the chart of a batch shows it."""
+        return f"document.querySelector('[data-chart=\"{batch}\"] .step[data-step={step}]')?.getAttribute('class')"
+
+    def test_the_chart_of_a_batch_shows_what_is_done_active_and_awaited(self):
+        page, plant = self.page, self.plant
+        plant.start("charted", "blend", doser="DOS2", mixer="MIX1")
+        page.until(f"{self.phase('charted', 'fill')}?.split(' ').includes('on')")
+        plant.until_state("DOS2", "dose", "Execute")
+        plant.do("hold", batch="charted")
+        page.until(f"{self.phase('charted', 'fill')}.includes('held')")
+        self.assertEqual(page.run(self.phase("charted", "empty")).split(), ["step"])
+        plant.do("thaw", batch="charted")
+        page.until(f"{self.phase('charted', 'stir')}?.includes('waits')")
+        self.assertIn("done", page.run(self.phase("charted", "fill")))
+        branches = "[...document.querySelectorAll('[data-key=\"batch charted\"] .branch')].map(each => each.innerText)"
+        for step in ("stir", "flush"):
+            page.until(f"{branches}.some(text => text.includes('{step}: '))")
+        page.run("document.querySelector('[data-chart-of=charted]').click()")
+        page.until("!document.querySelector('[data-chart=charted]')")
+        plant.until_closed("charted")
+
+    def test_lines_over_time_of_each_variable_and_service(self):
+        page, plant = self.page, self.plant
+        plant.start("trended", "refill", tank="TNK1")
+        plant.until_closed("trended")
+        row = "document.querySelector('[data-trends=TNK1] [data-key=\"{}\"]')"
+        for name, colour in (("variable level", "trend"), ("service fill", "run")):
+            page.until(DRAWN % (row.format(name), colour))
+        for span, wanted in (("none", "=== 0"), ("whole", "> 3")):
+            page.run(f"""(() => {{ const field = document.getElementById('span'); field.value = '{span}';
+                field.dispatchEvent(new Event('change', {{ bubbles: true }})); }})()""")
+            page.until(f"document.querySelectorAll('.trend canvas').length {wanted}")
+        self.assertRegex(page.run(f"{row.format('variable level')}.innerText"), "level")
+
+    def test_each_branch_that_waits_what_runs_on_and_what_is_nearly_full(self):
+        """As a program tells it: the page is shown a plant in which it is so."""
+        page, plant = self.page, self.plant
+        plant.start("branched", "blend", doser="DOS1", mixer="MIX1")
+        page.until(f"{self.phase('branched', 'fill')}")
+        page.run("""(() => { const { live } = page.state, since = live.now - 60000;
+            const batch = live.batches.find(each => each.batch === 'branched');
+            batch.waits = [{ node: 3, wait: { wait: 'Unmet', step: 'stir' }, since },
+              { node: 4, wait: { wait: 'Away', tag: 'DOS1' }, since }];
+            const step = { code: 'unheld', batch: 'branched', step: 'stir', tag: 'MIX1', by: 'ModeForbids', since };
+            const near = { code: 'near_history', since, deeds: ['renew'], presses: { renew: null } };
+            live.still = [step, near, { code: 'batch', batch: 'branched', ...batch.waits[1] }];
+            page.state.stream.close(); page.show(); })()""")
+        text = page.text("still-list")
+        for said in ("step stir at MIX1 runs on", "The history is nine tenths full", "Batch branched: waits: "):
+            self.assertIn(said, text)
+        self.assertEqual(page.run("document.querySelector('.alarm.red').innerText.includes('ModeForbids')"), True)
+        self.assertTrue(page.run("[...document.querySelectorAll('#still button')].some(each => !each.disabled"
+                                 " && each.dataset.deed === '{\"do\":\"renew\"}')"))
+        for step in ("stir", "flush"):
+            self.assertIn("waits", page.run(self.phase("branched", step)))
+        plant.until_closed("branched")
+
+    def test_the_file_is_renewed_by_two_presses(self):
+        page, plant = self.page, self.plant
+        entries = plant.live().told["entries"]
+        page.press(presses=2, do="renew")
+        page.until("document.getElementById('said').innerText.includes('a shorter file')")
+        self.assertLess(plant.live().told["entries"], entries)
 
     def test_a_station_that_is_gone_is_told_and_comes_back(self):
         self.plant.kill()

@@ -1,5 +1,7 @@
 """A plant for tests: a broker, simulated modules and station/run as processes of their own, on the program that was
 built; what an operator sees and asks for over HTTP; and who hears all that goes over the broker."""
+import contextlib
+import http.client
 import json
 import pathlib
 import shutil
@@ -20,6 +22,7 @@ FASTER = 10
 LEAD, SHIFT = "dan", "ann"
 TAGS = {"DOS1": "doser.mtp", "DOS2": "doser-3.0.mtp", "MIX1": "mixer.mtp", "TNK1": "tank.mtp"}
 UP = "the plant runs"
+ENTRIES = {"ask": "entries", "from": 0, "most": 200000}
 
 
 class Site:
@@ -127,6 +130,11 @@ class Running:
         with urllib.request.urlopen(request, timeout=PATIENCE) as answer:
             return json.loads(answer.read())
 
+    def ask_and_lose(self, deed):
+        """Asks for a deed of a station that is killed before it answers."""
+        with contextlib.suppress(OSError, http.client.HTTPException):
+            self.do(deed)
+
     def live(self, by=LEAD):
         """What the page shows to a person."""
         with urllib.request.urlopen(f"http://127.0.0.1:{self.port}/live?by={by}", timeout=PATIENCE) as stream:
@@ -175,15 +183,26 @@ class Running:
 
     # What the history has.
 
-    def asked(self, question):
-        """The answer of a program that is begun once the station's is ended."""
+    def asked(self, question, folder=None):
+        """The answer of a program that is begun once the station's is ended, or on another file."""
         lines = [json.loads((self.site.folder / "policy.json").read_text()), question]
-        ran = subprocess.run([reading.PROGRAM[0], "--job", "operate"], cwd=self.site.folder, stdout=subprocess.PIPE,
-                             input="".join(json.dumps(line) + "\n" for line in lines).encode(), check=True)
+        ran = subprocess.run([reading.PROGRAM[0], "--job", "operate"], cwd=folder or self.site.folder,
+                             input="".join(json.dumps(line) + "\n" for line in lines).encode(),
+                             stdout=subprocess.PIPE, check=True)
         return json.loads(ran.stdout.splitlines()[1])
 
     def entries(self):
-        return self.asked({"ask": "entries", "from": 0, "most": 200000})["entries"]
+        return self.asked(ENTRIES)["entries"]
+
+    def files(self):
+        """The entries of each file that the plant had, the oldest first, as those of the archive are read: each by its
+        own."""
+        for path in sorted((self.site.folder / "archive").glob("*.plant")):
+            with tempfile.TemporaryDirectory(prefix="station-") as room:
+                shutil.copy(path, pathlib.Path(room) / "pol.plant")
+                (pathlib.Path(room) / "pol.plant").chmod(0o600)
+                yield self.asked(ENTRIES, room)["entries"]
+        yield self.entries()
 
 
 class Live:

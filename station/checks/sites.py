@@ -6,6 +6,8 @@ import signal
 import socket
 import subprocess
 import sys
+import time
+import types
 import unittest
 import unittest.mock
 
@@ -15,10 +17,11 @@ from checks.plants import Site
 from checks.reading import STATION
 from operating import pol
 from operating.notes import Notes
-from operating.past import Past, nodes, tests
+from operating.past import Past, number_in, tests
 from operating.pol import Ended, Pol
-from operating.shown import free_name, is_still
+from operating.shown import Shown, is_still, obstacles_of
 from operating.site import Unusable, people_of, read_site
+from operating.standing import Standing, nodes
 from operating.station import plain
 
 DONE = {"done": True}
@@ -195,13 +198,32 @@ class Small(unittest.TestCase):
     def test_a_chart_is_the_same_with_no_settings_in_it(self):
         self.assertEqual(plain({"seq": [{"step": "a", "settings": []}]}), {"seq": [{"step": "a"}]})
 
-    def test_a_name_that_no_batch_has(self):
-        self.assertEqual([free_name(set()), free_name({"b1", "x"}), free_name({"x", "b2"})], ["b1", "b3", "b3"])
+    def test_the_number_in_a_batchs_name(self):
+        self.assertEqual(list(map(number_in, ("b1", "b12", "x", "b", "b1x", "b1234567890"))), [1, 12, 0, 0, 0, 0])
 
     def test_what_stands_still(self):
         for wait, wanted in (({"wait": "InState", "state": 64}, False), ({"wait": "InState", "state": 16}, True),
                              ({"wait": "Unmet"}, False), ({"wait": "Away"}, True), ({"denied": True}, True)):
             self.assertEqual(is_still(wait), wanted, wait)
+
+    def test_what_a_batch_waits_for_in_each_branch(self):
+        one, other = {"wait": "Unmet", "step": "s"}, {"wait": "Away", "tag": "M"}
+        waits = [{"node": 1, "wait": one, "since": 5}, {"node": 2, "wait": other, "since": 7}]
+        for wait, rows, wanted in ((one, waits, waits), (None, waits, []), (one, [], [{"wait": one, "since": 3}]),
+                                   ({"wait": "Frozen"}, waits, [{"wait": {"wait": "Frozen"}, "since": 3}])):
+            self.assertEqual(obstacles_of({"wait": wait, "since": 3, "waits": rows}), wanted)
+
+    def test_since_when_a_branch_waits(self):
+        shown = Shown(types.SimpleNamespace(plant=None, deeds=None))
+        one, other, third = {"wait": "Unmet"}, {"wait": "Away"}, {"wait": "NoArm"}
+        rows = [{"node": 1, "obstacle": one}, {"node": 2, "obstacle": other}]
+        first = shown.obstacles("b", rows, {"wait": one, "since": 3})
+        self.assertEqual([(each["node"], each["wait"], each["since"] == 3) for each in first],
+                         [(1, one, True), (2, other, False)])
+        time.sleep(0.01)
+        rows[0]["obstacle"] = third
+        again = shown.obstacles("b", rows, {"wait": third, "since": 9})
+        self.assertEqual([each["since"] for each in again], [9, first[1]["since"]])
 
     def test_a_recipes_settings_where_an_entry_does_not_say_them(self):
         step = {"step": "s1", "role": "A", "service": "dose", "procedure": 1, "settings": [{"name": "amount", "value": 5}]}
@@ -210,10 +232,11 @@ class Small(unittest.TestCase):
                      {"event": {"ev": "start", "at": 2, "batch": "b", "recipe": "one"}, "answer": DONE},
                      {"event": {"ev": "advance", "at": 3, "batch": "b"}, "answer": {"did": did}}])
         self.assertEqual(past.given["M", "dose"].settings, (("amount", 5),))
-        self.assertEqual(past.active, {"b": {"s1": "start"}})
+        self.assertEqual(past.standings["b"].active, {"s1": "start"})
 
     def test_notes_of_another_history_do_not_count(self):
         site = Site()
         self.addCleanup(site.close)
-        (pathlib.Path(site.folder) / "station.jsonl").write_text(json.dumps({"sends": [3, 100], "life": "x"}) + "\n")
-        self.assertEqual(Notes(site.folder).sent, {(3, 100): "x"})
+        (pathlib.Path(site.folder) / "station.jsonl").write_text(json.dumps({"sends": [3, "M", "s", 4], "life": "x"})
+                                                                    + "\n")
+        self.assertEqual(Notes(site.folder).sent, {(3, "M", "s", 4): "x"})

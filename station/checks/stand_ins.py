@@ -25,7 +25,7 @@ def fields(state, mask=ALL, mode="Automatic", procedure=1):
 
 def given(code, before="Idle", **more):
     """A command as an answer asks for it."""
-    told = {"place": 7, "at": now(), "is_by_hand": False, "procedure": 1, "settings": (), "batch": "b", "step": "s",
+    told = {"at": now(), "is_by_hand": False, "procedure": 1, "settings": (), "batch": "b", "step": "s",
             **more}
     return Given(tag=TAG, service=SERVICE, code=code, before=STATES[before], **told)
 

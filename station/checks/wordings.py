@@ -7,6 +7,7 @@ import unittest
 from adapters.told import REFUSED, UNANSWERED
 from checks.reading import STATION
 from operating.deeds import BATCH_DEEDS
+from operating.station import NEAR
 
 PAGE, VIEWER = STATION / "page", STATION.parent / "viewer" / "source"
 OWN = (PAGE / "own-words.js").read_text()
@@ -15,8 +16,9 @@ MOST_WIDE, MOST_LINES = 120, 400
 ONE_WORD_FOR_TWO = re.compile("anh[aä]lt|angehalten|anhielt")
 CODE = re.compile(r'alarms\.set\(\([^()]*\), "(\w+)"(?: if \w+ else "(\w+)")?')
 ORDER_CODE = re.compile(r'(?:self\.stand|self\.alarm)\(order, "(\w+)"')
-# What a command may have against it that isn't written out in the code.
+# What a command may have against it that isn't written out in the code; and what else stands on top of the page.
 OTHERS = (REFUSED, "no_effect", UNANSWERED)
+MORE = ("unheld", *NEAR.values())
 
 
 def entries():
@@ -37,7 +39,7 @@ def alarms():
     """The codes of all alarms, as the station's code names them."""
     operating = "".join(sources(STATION / "operating", ".py").values())
     found = {code for codes in CODE.findall(operating) for code in codes if code}
-    return found | {f"command_{code}" for code in (*ORDER_CODE.findall(operating), *OTHERS)}
+    return {*found, *MORE, *(f"command_{code}" for code in (*ORDER_CODE.findall(operating), *OTHERS))}
 
 
 class Words(unittest.TestCase):

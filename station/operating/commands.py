@@ -39,8 +39,8 @@ class Commands:
     def take_up(self, given):
         """The commands behind which no report came, as the history has them when the station begins."""
         for each in given:
-            if (each.place, each.at) not in self.notes.over:
-                self.open[each.tag, each.service] = Order(each, life=self.notes.sent.get((each.place, each.at)))
+            if each.name not in self.notes.over:
+                self.open[each.tag, each.service] = Order(each, life=self.notes.sent.get(each.name))
 
     def give(self, given):
         """A command that an answer asks for. It takes the place of one that is still open there."""
@@ -57,7 +57,7 @@ class Commands:
         given = order.given
         self.alarms.clear("command", *order.key)
         order.life, order.left, order.is_last = self.lives[given.tag], list(given.settings), False
-        self.notes.note(sends=[given.place, given.at], life=order.life)
+        self.notes.note(sends=given.name, life=order.life)
         self.go_on(order)
 
     def go_on(self, order):
@@ -160,7 +160,7 @@ class Commands:
         order = self.open.get((tag, service))
         if order is None:
             return False
-        self.notes.note(over=[order.given.place, order.given.at])
+        self.notes.note(over=order.given.name)
         self.drop(order.key)
         return True
 

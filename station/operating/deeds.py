@@ -22,7 +22,7 @@ class Deeds:
         known = {**dict.fromkeys(BATCH_DEEDS, self.batch), "start": self.start, "would": self.would, "desk": self.desk,
                  "plug": self.plug, "choose": self.choose, "unplug": self.unplug, "exchange_begin": self.exchange_begin,
                  "exchange_end": self.exchange_end, "exchange_cancel": self.exchange_cancel, "again": self.again,
-                 "forget": self.forget, "passed": self.passed, "restarted": self.restarted}
+                 "forget": self.forget, "passed": self.passed, "restarted": self.restarted, "renew": self.renew}
         try:
             answer = known[deed](asked, by, reply) if isinstance(by, str) and is_name(by) else NOBODY
         except (LookupError, TypeError, AttributeError) as fault:
@@ -57,6 +57,9 @@ class Deeds:
         bind = {role: tag for role, tag in tags.items() if role not in read}
         watch = {role: tag for role, tag in tags.items() if role in read}
         return {"ev": "start", "batch": batch, "recipe": recipe, "bind": bind, **({"watch": watch} if watch else {})}
+
+    def renew(self, _, by, reply):
+        return self.station.renewal.begin(by, reply)
 
     # Commands by hand, and modes.
 

@@ -1,5 +1,6 @@
-"""The station's own file: which commands went out, and in which life of their modules. It is written before a command
-is sent, so that after a crash one that was never sent is told from one of which nobody knows."""
+"""The station's own file: which commands went out, and in which life of their modules; and what a shorter file of the
+plant doesn't tell any more. It is written before a command is sent, so that after a crash one that was never sent is
+told from one of which nobody knows."""
 import json
 import os
 
@@ -7,12 +8,13 @@ NAME, DENIED = "station.jsonl", "denied.jsonl"
 
 
 class Notes:
-    """`sent` has the life of the module by the command's place and stamp, `over` the commands that a person doesn't
-    want any more, `lives` the last life of each module."""
+    """`sent` has the life of the module by the command's name, `over` the commands that a person doesn't want any more,
+    `lives` the last life of each module. Of earlier files of the plant `unplugged` has the tags whose modules were
+    unplugged by hand, and `named` is the highest number of a batch."""
 
     def __init__(self, folder):
         self.path, self.denied_path = folder / NAME, folder / DENIED
-        self.sent, self.over, self.lives = {}, set(), {}
+        self.sent, self.over, self.lives, self.unplugged, self.named = {}, set(), {}, set(), 0
         for told in lines_of(self.path):
             self.take(told)
         self.file = None
@@ -24,10 +26,12 @@ class Notes:
             self.over.add(tuple(told["over"]))
         if "tag" in told:
             self.lives[told["tag"]] = told["life"]
+        if "unplugged" in told:
+            self.unplugged, self.named = set(told["unplugged"]), told["named"]
 
     def begin(self, given):
         """Writes the file anew with what still counts: the lives, and these commands."""
-        counts = {(each.place, each.at) for each in given}
+        counts = {each.name for each in given}
         self.sent, self.over = {key: life for key, life in self.sent.items() if key in counts}, self.over & counts
         fresh = self.path.with_suffix(".new")
         with open(fresh, "w", encoding="utf-8") as file:
@@ -37,8 +41,11 @@ class Notes:
                 put(file, {"over": key})
             for tag, life in self.lives.items():
                 put(file, {"tag": tag, "life": life})
+            put(file, {"unplugged": sorted(self.unplugged), "named": self.named})
             keep(file)
         os.replace(fresh, self.path)
+        if self.file:
+            self.file.close()
         self.file = open(self.path, "a", encoding="utf-8")
 
     def note(self, **told):

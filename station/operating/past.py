@@ -2,23 +2,26 @@
 recipes, descriptions, and what happened last. Made of the entries, as they stand there and as they come."""
 import collections
 import dataclasses
+import re
 
 from adapters.codes import COMMAND_NAMES, COMMANDS
 from operating import machine
+from operating.standing import Standing, nodes
 
 # What a batch's log says that sends a command, with that command.
 SENDS = {"start": "Start", "finish": "Complete", "reset": "Reset", "stop": "Stop", "hold": "Hold", "unhold": "Unhold"}
-ENDS = ("end", "stop", "left")
 # The commands that count though their batch is over.
 OUTLIVES = ("Stop", "Hold", "Abort")
 MOST_LAST = 60
+# The names that the station gives to batches.
+NAMED = re.compile("b([0-9]{1,9})")
 FIELDS = ("StateCur", "CommandEn", "Mode", "Src", "ProcedureCur")
 
 
 @dataclasses.dataclass(frozen=True)
 class Entry:
-    """An entry of the history, with who asked, where somebody was named."""
-    place: int
+    """An entry of the history, with who asked, where somebody was named. One of an earlier file has no place."""
+    place: int | None
     event: dict
     answer: dict
     by: str | None
@@ -28,7 +31,6 @@ class Entry:
 class Given:
     """A command that an answer asks for. `before` is the state that its service had reported, `at` the event's
     stamp."""
-    place: int
     at: int
     tag: str
     service: str
@@ -40,17 +42,14 @@ class Given:
     step: str | None
     before: int | None
 
+    @property
+    def name(self):
+        """By what it is known again, also in another file of the plant, where its entry stands elsewhere."""
+        return self.at, self.tag, self.service, self.code
+
     def outlives(self):
         """Whether it is sent though its batch is over."""
         return COMMAND_NAMES[self.code] in OUTLIVES
-
-
-def nodes(node):
-    """A node of a chart and all in it."""
-    yield node
-    within = node.get("seq") or node.get("par") or [arm["then"] for arm in node.get("sel", [])]
-    for each in within or ([node["loop"]] if "loop" in node else []):
-        yield from nodes(each)
 
 
 def tests(value):
@@ -64,13 +63,19 @@ def tests(value):
             yield from tests(each)
 
 
+def number_in(batch):
+    """The number in a batch's name, where it is one that the station gives."""
+    found = NAMED.fullmatch(batch)
+    return int(found[1]) if found else 0
+
+
 class Past:
     """`reports` has the last two reports of each service since it was docked, the older first, `values` the last value
-    of each variable."""
+    of each variable, `standings` where each open batch stands, `named` the highest number in a batch's name."""
 
     def __init__(self, entries):
-        self.recipes, self.descriptions, self.recipe_of, self.active = {}, {}, {}, {}
-        self.reports, self.values, self.given, self.unplugged, self.count = {}, {}, {}, set(), 0
+        self.recipes, self.descriptions, self.recipe_of, self.standings, self.tests_of = {}, {}, {}, {}, {}
+        self.reports, self.values, self.given, self.unplugged, self.count, self.named = {}, {}, {}, set(), 0, 0
         self.last = collections.deque(maxlen=MOST_LAST)
         self.refused = collections.deque(maxlen=MOST_LAST)
         for each in entries:
@@ -129,22 +134,22 @@ class Past:
         self.recipes[event["recipe"]] = event
 
     def take_start(self, event):
-        self.recipe_of[event["batch"]], self.active[event["batch"]] = event["recipe"], {}
+        self.recipe_of[event["batch"]] = event["recipe"]
+        self.named = max(self.named, number_in(event["batch"]))
+        self.standings[event["batch"]] = Standing(self.recipes[event["recipe"]]["chart"])
 
     def close(self, batch):
         """A batch is over: what it asked for and nobody sent isn't sent any more."""
-        self.active.pop(batch, None)
+        self.standings.pop(batch, None)
+        self.recipe_of.pop(batch, None)
         for key, given in list(self.given.items()):
             if given.batch == batch and not given.outlives():
                 del self.given[key]
 
     def take_did(self, entry, did):
         """What a batch did, or an operator asked for."""
-        if "step" in did:
-            steps = self.active[entry.event["batch"]]
-            steps[did["step"]] = did["do"]
-            if did["do"] in ENDS:
-                del steps[did["step"]]
+        if "batch" in entry.event:
+            self.standings[entry.event["batch"]].take(did)
         if did["do"] not in SENDS and did["do"] != "asked":
             return None
         given = self.given_by(entry, did)
@@ -154,7 +159,7 @@ class Past:
     def given_by(self, entry, did):
         is_by_hand, batch, step = did["do"] == "asked", entry.event.get("batch"), did.get("step")
         told = self.reports.get((did["tag"], did["service"]))
-        return Given(entry.place, entry.event["at"], did["tag"], did["service"],
+        return Given(entry.event["at"], did["tag"], did["service"],
                      did["command"] if is_by_hand else COMMANDS[SENDS[did["do"]]], is_by_hand, did.get("procedure"),
                      self.settings_told(entry, did), batch, step, told[-1]["StateCur"] if told else None)
 
@@ -164,6 +169,21 @@ class Past:
             return ()
         told = entry.answer.get("settings") or self.settings(entry.event["batch"], did["step"])
         return tuple((each["name"], each["value"]) for each in told)
+
+    # A shorter file.
+
+    def remember(self, unplugged, named):
+        """What earlier files of the plant told, and this one doesn't."""
+        self.unplugged, self.named = self.unplugged | unplugged, max(self.named, named)
+
+    def renew(self, count):
+        """From here on the plant has a file of so many entries. What was known of it holds on; only where an entry
+        stood says nothing any more."""
+        self.count = count
+        for known in (self.last, self.refused):
+            placeless = [dataclasses.replace(each, place=None) for each in known]
+            known.clear()
+            known.extend(placeless)
 
     # What is asked of it.
 
@@ -184,8 +204,10 @@ class Past:
                 for each in known["roles"]]
 
     def tested(self, recipe):
-        """The role and the variable of each test of a recipe."""
-        return set(tests(self.recipes[recipe]["chart"]))
+        """The role and the variable of each test of a recipe, which never changes."""
+        if recipe not in self.tests_of:
+            self.tests_of[recipe] = set(tests(self.recipes[recipe]["chart"]))
+        return self.tests_of[recipe]
 
     def before_last(self, tag, service):
         """The report before the last one of a service; None where there is none."""

@@ -7,7 +7,7 @@ from operating.alarms import now
 from operating.past import Past
 from operating.pol import is_entry
 
-BINDINGS = "bindings"
+BINDINGS, NEARLY_FULL = "bindings", 180_000
 IS_REFUSED = ("refused", "denied", "bad")
 # Events that change neither which modules there are, nor who holds and watches them, nor which batches are open. An
 # advance does only where it closes one.
@@ -53,6 +53,15 @@ class Plant:
                 self.given(given)
         self.changed()
 
+    def renew(self, change):
+        """Has a change made to the file that keeps what stands here, while nothing has it open. Gives what `change`
+        gave."""
+        done = self.pol.between(change)
+        self.fresh, self.answers, self.standing = {}, {}, None
+        self.past.renew(self.pol.kept)
+        self.changed()
+        return done
+
     def would(self, event, by=None):
         """What an event would be answered now."""
         return self.would_all([(event, by)])[0]
@@ -78,6 +87,11 @@ class Plant:
         if by not in self.fresh:
             self.fresh[by] = self.pol.ask({"ask": "plant", **({"by": by} if by else {})})["plant"]
         return self.fresh[by]
+
+    def near(self):
+        """The rules whose limits are nearly reached. An older program tells them not: then it is counted here."""
+        state = self.state()
+        return state["near"] if "near" in state else ["HistoryFull"] * (state["entries"] > NEARLY_FULL)
 
     # What seldom changes: it is asked anew only where it may have. Of a module that is who has it and its ticket, of a
     # batch what it binds; what a service reported isn't looked up here.

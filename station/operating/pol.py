@@ -149,6 +149,14 @@ class Pol:
             yield from page
             place += len(page)
 
+    def between(self, change):
+        """Ends the program, has something done to its file, and begins it anew. Gives what was done."""
+        self.close()
+        try:
+            return change()
+        finally:
+            self.kept = self.begin()
+
     def close(self):
         """Lets it end by itself, as it does at the end of its input."""
         try:

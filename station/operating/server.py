@@ -1,7 +1,9 @@
 """The station's page over HTTP: its files, a stream of what is to be shown to a person, and what that person asks
 for."""
+import collections
 import functools
 import http.server
+import itertools
 import json
 import pathlib
 import queue
@@ -11,15 +13,19 @@ import time
 import urllib.parse
 
 STATION = pathlib.Path(__file__).resolve().parent.parent
-PAGE, VIEWER = STATION / "page", STATION.parent / "viewer" / "source"
-# The words of the documents, in both languages, are those of the page that draws histories.
-SHARED = ("docs.js", "german.js", "labels.js", "words.js")
+PAGE, VIEWER = STATION / "page", STATION.parent / "viewer"
+# The words of the documents, in both languages, and what draws charts and lines are those of the page that draws
+# histories.
+SCRIPTS = ("docs.js", "german.js", "labels.js", "words.js", "recipes.js", "stand.js", "awaited.js", "paint.js",
+           "pens.js", "chart.js")
+SHARED = {"chart.css": VIEWER / "chart.css", **{name: VIEWER / "source" / name for name in SCRIPTS}}
 KINDS = {".html": "text/html", ".js": "text/javascript", ".css": "text/css", ".svg": "image/svg+xml"}
 # In seconds: how often the page is drawn anew at most, how long nothing may be told to it, how long an answer takes.
 PAUSE, SILENCE, PATIENCE = 0.2, 5.0, 30.0
 MOST_BYTES, MOST_READERS = 100_000, 64
 # How many times as long as a drawing took nothing is drawn.
 LEFT = 4
+OVER = object()
 POLICY = "default-src 'self'; frame-ancestors 'none'"
 
 
@@ -36,13 +42,14 @@ class Pages:
     """Who looks at the page, at this address."""
 
     def __init__(self, turns, address):
-        self.turns, self.readers, self.is_due, self.pause = turns, {}, False, PAUSE
+        self.turns, self.readers, self.pause, self.is_drawing, self.is_old = turns, {}, PAUSE, False, False
         self.server = Server(address, functools.partial(Handler, self))
 
-    def serve(self, draw, do):
-        """Begins to serve. `draw` gives all that is shown to a person, `do` takes what is asked for, and a call for the
-        answer. Both are called in turns."""
-        self.draw, self.do = draw, do
+    def serve(self, draw, do, more):
+        """Begins to serve. `draw` gives all that is shown to a person, part by part: what it gives last is the whole.
+        `do` takes what is asked for, and a call for the answer; `more` has by its name what a page asks for besides,
+        which takes the words of a query. All are called in turns."""
+        self.draw, self.do, self.more = draw, do, more
         threading.Thread(target=self.server.serve_forever, daemon=True).start()
 
     def close(self):
@@ -51,24 +58,50 @@ class Pages:
 
     def changed(self):
         """Something is to be shown anew. In a turn."""
-        if self.readers and not self.is_due:
-            self.is_due = True
-            self.turns.later(self.pause, self.tell)
+        self.is_old = True
+        if self.readers and not self.is_drawing:
+            self.is_drawing = True
+            self.turns.later(self.pause, self.begin)
 
-    def tell(self):
-        """Gives each reader what is to be shown; of what one didn't take yet the latest counts. What takes long is done
-        less often, so that most of the time is left for the plant."""
-        self.is_due, began = False, time.monotonic()
-        texts = {by: json.dumps(self.draw(by)) for by in set(self.readers.values())}
-        self.pause = max(PAUSE, LEFT * (time.monotonic() - began))
+    def begin(self):
+        """Begins to draw for all who look."""
+        self.is_old = False
+        readers = collections.defaultdict(list)
         for reader, by in self.readers.items():
-            put_latest(reader, texts[by])
+            readers[by].append(reader)
+        self.go_on(itertools.chain.from_iterable(itertools.starmap(self.draw_for, readers.items())), self.drawn)
+
+    def drawn(self, took):
+        """All was drawn, which took so many seconds. What takes long is done less often, so that most of the time is
+        left for the plant."""
+        self.pause, self.is_drawing = max(PAUSE, LEFT * took), False
+        if self.is_old:
+            self.changed()
+
+    def draw_for(self, by, readers):
+        """Draws for a person, and gives the whole to those who looked as this person when it was begun; of what one
+        didn't take yet the latest counts."""
+        for shown in self.draw(by):
+            yield
+        text = json.dumps(shown)
+        for reader in readers:
+            put_latest(reader, text)
+
+    def go_on(self, drawing, ended, took=0.0):
+        """Draws part by part, each in a turn of its own: a person who asks for something doesn't wait for the whole."""
+        began = time.monotonic()
+        is_over = next(drawing, OVER) is OVER
+        took += time.monotonic() - began
+        if is_over:
+            ended(took)
+        else:
+            self.turns.put(lambda: self.go_on(drawing, ended, took))
 
     def come(self, reader, by):
         if len(self.readers) >= MOST_READERS:
             self.readers.pop(next(iter(self.readers)))
         self.readers[reader] = by
-        put_latest(reader, json.dumps(self.draw(by)))
+        self.go_on(self.draw_for(by, [reader]), lambda _: None)
 
     def go(self, reader):
         self.readers.pop(reader, None)
@@ -85,6 +118,8 @@ def put_latest(reader, text):
 class Handler(http.server.BaseHTTPRequestHandler):
     """One request. All that touches the station is done in a turn."""
     protocol_version = "HTTP/1.1"
+    # An answer is sent at once, and doesn't wait until its head was acknowledged.
+    disable_nagle_algorithm = True
 
     def __init__(self, pages, *words):
         self.pages = pages
@@ -110,16 +145,30 @@ class Handler(http.server.BaseHTTPRequestHandler):
 
     def do_GET(self):
         asked = urllib.parse.urlsplit(self.path)
+        name, query = asked.path.removeprefix("/"), urllib.parse.parse_qs(asked.query)
         if not self.is_from_here():
             self.give(403)
-        elif asked.path == "/live":
-            self.stream(urllib.parse.parse_qs(asked.query).get("by", [""])[0])
+        elif name == "live":
+            self.stream(query.get("by", [""])[0])
+        elif name in self.pages.more:
+            self.give_answer(self.pages.turns.put, lambda reply: reply(self.pages.more[name](query)))
         else:
-            self.file(asked.path.removeprefix("/") or "index.html")
+            self.file(name or "index.html")
+
+    def give_answer(self, turn, deal):
+        """Gives what is answered in a turn; where that is None there is no such thing."""
+        answers = queue.Queue()
+        turn(lambda: deal(answers.put))
+        try:
+            answer = answers.get(timeout=PATIENCE)
+        except queue.Empty:
+            self.give(504)
+            return
+        self.give(404 if answer is None else 200, json.dumps(answer).encode())
 
     def file(self, name):
         """A file of the page. No other is given, whatever the name."""
-        path = (VIEWER if name in SHARED else PAGE) / name
+        path = SHARED.get(name, PAGE / name)
         names = {each.name for each in PAGE.iterdir()} | set(SHARED)
         if name in names and path.suffix in KINDS:
             self.give(200, path.read_bytes(), KINDS[path.suffix])
@@ -164,9 +213,4 @@ class Handler(http.server.BaseHTTPRequestHandler):
         if self.path != "/do" or not isinstance(asked, dict):
             self.give(400)
             return
-        answers = queue.Queue()
-        self.pages.turns.hurry(lambda: self.pages.do(asked, answers.put))
-        try:
-            self.give(200, json.dumps(answers.get(timeout=PATIENCE)).encode())
-        except queue.Empty:
-            self.give(504)
+        self.give_answer(self.pages.turns.hurry, lambda reply: self.pages.do(asked, reply))

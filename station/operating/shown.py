@@ -9,6 +9,8 @@ from operating.plant import is_permitted
 from package.names import is_name
 
 MOST_CLOSED, MOST_ENTRIES, MOST_TRIED = 12, 30, 16
+# How many modules or batches are drawn at once, before others have their turn.
+AT_ONCE = 8
 SHORT = {"station": "short"}
 DOCKED, ORDER_DEEDS = ("exchange_begin", "unplug"), ("again", "forget")
 # Where a batch stands still and isn't only on its way: the wait, and for InState the states in which nothing moves.
@@ -16,23 +18,32 @@ MOVING = ("Starting", "Execute", "Completing", "Resetting", "Unholding", "Resumi
 
 
 class Shown:
-    """Of a station."""
+    """Of a station. `seen` has what each batch waits for in each branch, and since when."""
 
     def __init__(self, station):
-        self.station, self.plant, self.deeds = station, station.plant, station.deeds
+        self.station, self.plant, self.deeds, self.seen = station, station.plant, station.deeds, {}
 
     def to(self, by):
-        """All of it, as this person may see it. What is no name is nobody."""
+        """All of it, as this person may see it: None for each part, and then the whole. Between parts something may
+        happen: what isn't there any more is left out then. What is no name is nobody."""
         by = by if is_name(by) else ""
-        state = self.plant.state(by)
-        batches = [batch for batch in state["batches"] if batch["outcome"] == "Running"]
+        state, modules, batches = self.plant.state(by), [], []
+        for some in parts_of(state["modules"]):
+            modules += self.modules(some, by)
+            yield None
+        for some in parts_of(state["batches"]):
+            batches += self.batches(some, by)
+            yield None
+        self.seen = {name: found for name, found in self.seen.items() if name in self.plant.past.standings}
+        recipes = self.recipes(by)
+        yield None
         closed = [batch for batch in state["batches"] if batch["outcome"] != "Running"][-MOST_CLOSED:]
-        return {"now": now(), "by": by, "people": self.station.site.people, "entries": state["entries"],
-                "modules": self.modules(state["modules"], by), "absent": self.absent(by),
-                "batches": self.batches(batches, by), "closed": closed[::-1],
-                "recipes": self.recipes(state, by), "still": self.still(batches, by),
-                "refused": self.refused(), "last": list(map(self.entry, self.plant.past.last))[-MOST_ENTRIES:],
-                "packages": sorted(self.station.site.packages)}
+        yield {"now": now(), "by": by, "people": self.station.site.people, "entries": state["entries"],
+               "modules": modules, "absent": self.absent(by), "batches": batches, "closed": closed[::-1],
+               "recipes": recipes, "still": self.still(batches, by),
+               "renew": self.why_not("renew", {}, by), "begun": state.get("begun"), "sum": state.get("sum"),
+               "refused": self.refused(), "last": list(map(self.entry, self.plant.past.last))[-MOST_ENTRIES:],
+               "packages": sorted(self.station.site.packages)}
 
     def presses(self, asked, by):
         """For each event None where `pol` would do it for this person, else what it would answer. Where nobody is at
@@ -45,9 +56,17 @@ class Shown:
     # Modules.
 
     def modules(self, modules, by):
+        """Those of some modules that are still there as they were."""
+        modules = [each for each in modules if self.is_as_told(each)]
         docked = [{"ev": deed, "tag": each["tag"]} for each in modules for deed in DOCKED]
         answers = iter(self.presses(docked, by))
         return [{**self.module(each, by), "presses": {deed: next(answers) for deed in DOCKED}} for each in modules]
+
+    def is_as_told(self, module):
+        """Whether the module that stands under a tag now is of the description that `pol` told of."""
+        described = self.plant.past.descriptions.get(module["tag"])
+        return described is not None and (
+            [each["name"] for each in described["variables"]] == [each["name"] for each in module["values"]])
 
     def module(self, module, by):
         tag, followed = module["tag"], self.station.adapter.followed.get(module["tag"])
@@ -90,14 +109,35 @@ class Shown:
     # Batches and recipes.
 
     def batches(self, batches, by):
+        """Those of some batches that are open."""
+        batches = [batch for batch in batches if batch["batch"] in self.plant.past.standings]
         asked = [{**event, "batch": batch["batch"]} for batch in batches for event in BATCH_DEEDS.values()]
         answers = iter(self.presses(asked, by))
-        return [{**batch, "steps": self.steps(batch), **self.wait(batch["batch"]),
-                 "presses": {deed: next(answers) for deed in BATCH_DEEDS}} for batch in batches]
+        return [{**batch, **self.stands(batch), "presses": {deed: next(answers) for deed in BATCH_DEEDS}}
+                for batch in batches]
+
+    def stands(self, batch):
+        """Where a batch stands in its chart, and what it waits for."""
+        name, wait = batch["batch"], self.wait(batch["batch"])
+        return {"steps": self.steps(batch), "stands": self.plant.past.standings[name].shown(), **wait,
+                "waits": self.obstacles(name, batch.get("waits", []), wait)}
+
+    def obstacles(self, batch, waits, wait):
+        """What a batch waits for in each branch, with since when: of the first one the station knows it, of another one
+        it is since somebody looked."""
+        old = self.seen.get(batch, {})
+        found = {row["node"]: (row["obstacle"], now()) for row in waits}
+        for node, (obstacle, _) in found.items():
+            if obstacle == wait["wait"]:
+                found[node] = obstacle, wait["since"]
+            elif node in old and old[node][0] == obstacle:
+                found[node] = old[node]
+        self.seen[batch] = found
+        return [{"node": node, "wait": obstacle, "since": since} for node, (obstacle, since) in found.items()]
 
     def steps(self, batch):
         """The steps that are active, in each branch, with what was done last and what their services are in."""
-        return [self.step(batch, step, did) for step, did in self.plant.past.active.get(batch["batch"], {}).items()]
+        return [self.step(batch, step, did) for step, did in self.plant.past.standings[batch["batch"]].active.items()]
 
     def step(self, batch, step, did):
         found = self.plant.past.step_of(batch["batch"], step)
@@ -110,9 +150,10 @@ class Shown:
         wait = self.station.batches.waits.get(batch)
         return {"wait": wait.answer, "since": wait.since} if wait else {"wait": None, "since": None}
 
-    def recipes(self, state, by):
-        """Each recipe with modules on which a new batch would start, where there are some."""
-        batch = free_name({batch["batch"] for batch in state["batches"]})
+    def recipes(self, by):
+        """Each recipe with modules on which a new batch would start, where there are some. No batch had its name, also
+        in earlier files of the plant."""
+        batch = f"b{self.plant.past.named + 1}"
         return [self.recipe(batch, found, by) for found in self.plant.bindings()]
 
     def recipe(self, batch, found, by):
@@ -130,21 +171,35 @@ class Shown:
     def tags_of(self, type):
         return [tag for tag, module in self.plant.modules().items() if module["type"] == type]
 
+    # What a page asks for besides.
+
+    def trends(self, query):
+        """What some modules reported over time, by their tags."""
+        return self.station.trends.shown(query.get("span", [""])[0], query.get("tag", []))
+
+    def chart(self, query):
+        """A recipe as its line has it, which never changes; None where there is none."""
+        return self.plant.past.recipes.get(query.get("name", [""])[0])
+
     # What stands still, and what happened.
 
     def still(self, batches, by):
-        """Alarms, and batches that don't move, the longest first."""
-        waits = [{"code": "batch", "batch": batch["batch"], **self.wait(batch["batch"])} for batch in batches]
-        still = [each for each in waits if each["wait"] and is_still(each["wait"])]
+        """Steps that run on though their batch is held; alarms, and batches that don't move, the longest first."""
+        still = [{"code": "batch", "batch": batch["batch"], **each} for batch in batches for each in obstacles_of(batch)
+                 if is_still(each["wait"])]
+        unheld = [{"code": "unheld", "batch": batch["batch"], "since": batch["since"] or now(), **step}
+                  for batch in batches for step in batch.get("unheld", [])]
         alarms = [{**alarm, "presses": {deed: self.why_not(deed, alarm, by) for deed in alarm.get("deeds", [])}}
                   for alarm in self.station.alarms.shown()]
-        return sorted([*alarms, *still], key=lambda each: each["since"])
+        return unheld + sorted([*alarms, *still], key=lambda each: each["since"])
 
     def why_not(self, deed, alarm, by):
         """Why a person may not press this at an alarm; None where the person may."""
-        at = alarm["tag"], alarm["service"]
         if not by:
             return NOBODY
+        if deed == "renew":
+            return self.station.renewal.why_not(by)
+        at = alarm["tag"], alarm["service"]
         if deed not in ORDER_DEEDS:
             return self.presses([self.station.reports.first_event(deed, *at)], by)[0]
         if not self.deeds.may_choose(by, *at):
@@ -161,11 +216,23 @@ class Shown:
         return {"place": entry.place, "event": short(entry.event), "answer": entry.answer, "by": entry.by}
 
 
+def parts_of(many):
+    """Many things in parts of a few."""
+    return [many[place:place + AT_ONCE] for place in range(0, len(many), AT_ONCE)]
+
+
 def assignments(roles):
     """Each way to give each role a module of its own."""
     for tags in itertools.product(*(role["tags"] for role in roles)):
         if len(set(tags)) == len(tags):
             yield {role["role"]: tag for role, tag in zip(roles, tags)}
+
+
+def obstacles_of(batch):
+    """What a batch waits for: in each branch, or, where it waits for something else first, for that alone."""
+    if any(each["wait"] == batch["wait"] for each in batch["waits"]):
+        return batch["waits"]
+    return [{"wait": batch["wait"], "since": batch["since"]}] if batch["wait"] else []
 
 
 def is_still(wait):
@@ -179,11 +246,3 @@ def short(event):
     """An event without what is long in it: of a description its type and version are left."""
     described = {"desc": {key: event["desc"][key] for key in ("type", "version")}} if "desc" in event else {}
     return {key: part for key, part in event.items() if key not in ("chart", "roles")} | described
-
-
-def free_name(names):
-    """A name that no batch has."""
-    number = len(names) + 1
-    while f"b{number}" in names:
-        number += 1
-    return f"b{number}"

@@ -10,20 +10,25 @@ from operating.deeds import Deeds
 from operating.late import Late
 from operating.notes import Notes
 from operating.plant import Plant
+from operating.renewal import Renewal
 from operating.reports import Reports
 from operating.shown import Shown
+from operating.trends import Trends
 from operating.values import Values
 
 MOST_DENIED, NOBODY_THERE = 60, 5.0
-# In seconds: how often it is asked how much room the history has; and with how little it is told.
-ROOM_EVERY, MOST_ENTRIES, LITTLE_ROOM = 10.0, 200_000, 10_000
+# How often it is asked which limits are near, in seconds; the alarm of each, by the rule that refuses once it is
+# reached; and those that a shorter file puts off.
+NEAR_EVERY = 10.0
+NEAR = {"HistoryFull": "near_history", "BatchesFull": "near_batches", "RecipesFull": "near_recipes"}
+PUT_OFF = ("HistoryFull", "BatchesFull")
 
 
 class Station:
     """`site` says what stands in the plant, `pol` decides, `broker` is where the modules are reached. `changed` is
-    called where the page is to be drawn anew."""
+    called where the page is to be drawn anew; `script` is where `renew` is."""
 
-    def __init__(self, site, pol, turns, broker, changed, name="station"):
+    def __init__(self, site, pol, turns, broker, changed, name="station", script=None):
         self.site, self.pol, self.turns, self.changed = site, pol, turns, changed
         self.packages, self.denied, self.others = {}, [], {}
         self.notes, self.alarms = Notes(site.folder), Alarms(changed)
@@ -34,12 +39,14 @@ class Station:
         self.values = Values(turns, self.plant, self.alarms, self.batches)
         self.late = Late(turns, self.plant, self.alarms, site.late)
         self.adapter = self.commands.adapter = Mqtt(turns, self.hear, *broker, name=name)
+        self.trends, self.renewal = Trends(), Renewal(self, script)
         self.deeds = Deeds(self)
         self.shown = Shown(self)
 
     def begin(self):
         """Goes on where the history stands: modules and recipes of the site that `pol` doesn't have are told it, and
         the commands behind which no report came are taken up."""
+        self.plant.past.remember(self.notes.unplugged, self.notes.named)
         self.notes.begin(self.plant.past.given.values())
         self.commands.take_up(self.plant.past.given.values())
         for tag in self.site.modules:
@@ -53,7 +60,7 @@ class Station:
                 self.follow(tag, self.packages[tag])
         self.adapter.open()
         self.turns.later(NOBODY_THERE, self.miss)
-        self.ask_room()
+        self.ask_near()
         self.batches.want(self.plant.open_batches())
 
     def plug(self, tag):
@@ -84,12 +91,19 @@ class Station:
             if tag not in self.commands.lives:
                 self.alarms.set(("gone", tag), "never_there", tag=tag)
 
-    def ask_room(self):
-        """Tells where the history is nearly full: once it is, no batch can even be stopped any more."""
-        left = MOST_ENTRIES - self.plant.past.count
-        if left < LITTLE_ROOM:
-            self.alarms.set(("room", None), "room", left=left)
-        self.turns.later(ROOM_EVERY, self.ask_room)
+    def ask_near(self):
+        """Asks again and again which limits are near."""
+        self.tell_near()
+        self.turns.later(NEAR_EVERY, self.ask_near)
+
+    def tell_near(self):
+        """Tells which limits are near: once the history is full, no batch can even be stopped any more."""
+        near = self.plant.near()
+        for rule, code in NEAR.items():
+            if rule in near:
+                self.alarms.set(("near", None, rule), code, deeds=["renew"] if rule in PUT_OFF else [])
+            else:
+                self.alarms.clear("near", None, rule)
 
     # Modules.
 
@@ -110,7 +124,7 @@ class Station:
             for order in self.commands.of_module(tag):
                 self.commands.drop(order.key)
             self.commands.gone(tag)
-            for part in (self.reports, self.values, self.late):
+            for part in (self.reports, self.values, self.late, self.trends):
                 part.left(tag)
         self.alarms.clear_of(tag)
 
@@ -129,6 +143,7 @@ class Station:
     @hear.register
     def _(self, told: Back):
         self.alarms.clear("gone", told.tag)
+        self.trends.back(told.tag)
         self.reports.back(told.tag, told.life)
         self.commands.back(told.tag, told.life)
         self.batches.touch(told.tag)
@@ -137,6 +152,7 @@ class Station:
     @hear.register
     def _(self, told: Gone):
         self.commands.gone(told.tag)
+        self.trends.gone(told.tag)
         self.alarms.set(("gone", told.tag), "gone", tag=told.tag, why=told.why)
         self.changed()
 
@@ -144,15 +160,18 @@ class Station:
     def _(self, told: Report):
         self.alarms.clear("quality", told.tag, f"{SERVICE}/{told.service}")
         self.late.reported((told.tag, told.service), told.fields["StateCur"])
+        self.trends.state(told.tag, told.service, told.fields["StateCur"])
         self.reports.take(told)
 
     @hear.register
     def _(self, told: Value):
+        self.trends.value(told.tag, told.variable, told.value)
         self.values.take(told)
 
     @hear.register
     def _(self, told: Bad):
         if told.place[0] == VARIABLE:
+            self.trends.value(told.tag, told.place[1], None)
             self.values.bad(told.tag, told.place[1], told.why)
         else:
             place = "/".join(told.place)

@@ -2,6 +2,8 @@
 bad quality. The page has all of them."""
 import dataclasses
 
+from operating.pol import MOST_AT_ONCE
+
 # In seconds: how often one value is told at most, since a history has room for 200,000 entries; and for how long values
 # are gathered, since those that are told together are kept together.
 EVERY, GATHER = 0.5, 0.05
@@ -52,8 +54,12 @@ class Values:
                 and self.plant.value(*key) != shown.value)
 
     def tell_all(self):
-        """Tells the values that were gathered, as they are now."""
+        """Tells the values that were gathered, as they are now. Of many each group has a turn of its own."""
         keys, self.due = [key for key in self.due if self.is_news(key)], {}
+        keys, later = keys[:MOST_AT_ONCE], keys[MOST_AT_ONCE:]
+        if later:
+            self.due = dict.fromkeys(later)
+            self.turns.put(self.tell_all)
         self.plant.tell_all([{"ev": "variable", "tag": tag, "name": name, "value": self.shown[tag, name].value}
                              for tag, name in keys])
         for key in keys:

@@ -15,18 +15,27 @@ const batches = (() => {
       const state = each.state === null ? words.say("unreported") : words.state(each.state);
       return words.say("stepIs", each.step, words.say(`now_${each.did}`), each.service, each.tag, state);
     });
-    return own.map(text => make("p", { class: "step" }, text));
+    return own.map(text => make("p", { class: "branch" }, text));
   }
-  function batch(each) {
+  // Each branch of a batch, or the steps that are active, where it doesn't go by its chart any more. What a single
+  // branch waits for is said above already.
+  function within(each, live) {
+    const found = charts.branches(each, live), isAlone = found.length === 1;
+    const line = ({ said, more }) => make("p", { class: "branch" }, isAlone ? "" : said,
+      !isAlone && said && more ? " · " : "", faint(more));
+    return found.length ? found.map(line) : steps(each);
+  }
+  const batch = live => each => {
     const presses = DEEDS.map(deed => button(words.say(`deed_${deed}`), { do: deed, batch: each.batch },
       each.presses[deed], { loud: LOUD.has(deed), sure: deed === "abandon" }));
     return make("article", { class: "item", "data-key": `batch ${each.batch}` },
       make("h3", {}, make("span", {}, each.batch), faint(`${each.recipe}: ${words.played(each)}`)),
-      ...steps(each),
       make("p", { class: "waits" }, standing(each) ? make("b", {}, `${standing(each)}. `) : "", waits(each), " ",
         each.since ? make("span", { class: "faint", "data-since": each.since }) : null),
-      make("div", { class: "buttons", "data-key": "deeds" }, ...presses));
-  }
+      ...within(each, live),
+      make("div", { class: "buttons", "data-key": "deeds" }, ...presses),
+      ...charts.parts(each, live.batches.length));
+  };
   // The modules that a person chose for roles of recipes, and what a start on them would be answered, as it was asked.
   const chosen = {}, asked = {};
   function tagsOf({ recipe, roles, assigned }) {
@@ -72,7 +81,7 @@ const batches = (() => {
     make("b", {}, each.batch), ` ${each.outcome} `, faint(`${each.recipe}: ${words.played(each)}`));
   const calm = key => make("p", { class: "faint" }, words.say(key));
   function show(live) {
-    draw.into("batch-list", ...(live.batches.length ? live.batches.map(batch) : [calm("noneOpen")]));
+    draw.into("batch-list", ...(live.batches.length ? live.batches.map(batch(live)) : [calm("noneOpen")]));
     draw.into("recipe-list", ...(live.recipes.length ? live.recipes.map(recipe(live.entries)) : [calm("noRecipe")]));
     draw.into("closed-list", ...(live.closed.length ? live.closed.map(closed) : [calm("noneClosed")]));
   }

@@ -25,13 +25,14 @@ const draw = (() => {
     }
   }
   // Makes an element like another one, keeping what is alike. A field shows the value that it is to have, or else what
-  // was chosen in it.
+  // was chosen in it. What is in an element that is `drawn` others draw.
   function patch(old, fresh) {
     if (old.nodeType === Node.TEXT_NODE) {
       if (old.data !== fresh.data) old.data = fresh.data;
       return;
     }
     patchAttributes(old, fresh);
+    if (fresh.dataset.drawn !== undefined) return;
     const chosen = old.nodeName === "SELECT" ? fresh.dataset.value ?? old.value : null;
     fill(old, [...fresh.childNodes]);
     if (chosen !== null && [...old.options].some(option => option.value === chosen)) old.value = chosen;
@@ -71,5 +72,5 @@ const draw = (() => {
       disabled: why !== null, title: why === null ? null : reason(why), "data-sure": sure }, text);
   }
   const faint = (...within) => make("span", { class: "faint" }, ...within);
-  return { make, into, button, faint, reason, armed };
+  return { make, fill, into, button, faint, reason, armed };
 })();

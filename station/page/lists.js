@@ -5,6 +5,8 @@ const lists = (() => {
   // In milliseconds: a batch that waits for its service's next state stands still only after this.
   const PATIENCE = 5000;
   const LOUD = new Set(["restarted"]);
+  // What runs on though it should not; and what is still to come.
+  const STYLES = { unheld: "red", near_history: "warning", near_batches: "warning", near_recipes: "warning" };
   const isStill = (each, now) => each.code !== "batch" || each.wait.wait !== "InState" || now - each.since > PATIENCE;
   // The states by which a service may have gone unseen.
   const way = each => (each.way?.length ? ` ${words.say("statesBetween", each.way.map(words.state).join(", "))}` : "");
@@ -17,12 +19,12 @@ const lists = (() => {
     return [words.say("batchWaits", each.batch, words.answer(each.wait)), wait ? wait.look : words.say(own)];
   }
   const key = each => [each.code === "batch" ? "batch" : "alarm", each.batch, each.tag, each.service, each.variable,
-    each.recipe, each.place, each.code].join(" ");
+    each.recipe, each.place, each.step, each.node, each.code].join(" ");
   function still(each) {
     const [what, look] = why(each);
     const deeds = (each.deeds ?? []).map(deed => button(words.say(`deed_${deed}`),
       { do: deed, tag: each.tag, service: each.service }, each.presses[deed], { loud: LOUD.has(deed), sure: true }));
-    return make("div", { class: "alarm", "data-key": key(each) },
+    return make("div", { class: `alarm ${STYLES[each.code] ?? ""}`.trim(), "data-key": key(each) },
       make("p", {}, make("b", {}, what), make("span", { class: "faint", "data-since": each.since })),
       make("p", { class: "faint" }, look),
       deeds.length ? make("div", { class: "buttons", "data-key": "deeds" }, ...deeds) : null);
@@ -40,8 +42,13 @@ const lists = (() => {
     const module = live.modules.find(each => each.tag === tag);
     return module?.values.find(each => each.name === name)?.kind;
   }
-  const last = live => ({ place, event, answer, by }) => make("p", { class: "row", "data-key": `entry ${place}` },
-    `${place + 1}: ${words.event({ ...event, by }, (tag, name) => kindIn(live, tag, name))} → ${words.answer(answer)}`);
+  // An entry with its number, where it stands in the file that the plant has now.
+  function last(live) {
+    const said = ({ event, answer, by }) =>
+      `${words.event({ ...event, by }, (tag, name) => kindIn(live, tag, name))} → ${words.answer(answer)}`;
+    return each => make("p", { class: "row", "data-key": `entry ${each.place ?? JSON.stringify(each.event)}` },
+      each.place === null ? "" : `${each.place + 1}: `, said(each));
+  }
   const calm = said => make("p", { class: "faint" }, words.say(said));
   // For who doesn't see it: what stands still, told where that changed.
   function hear(text) {

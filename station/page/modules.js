@@ -2,9 +2,9 @@
 "use strict";
 const modules = (() => {
   const { make, button, faint } = draw;
-  const STYLES = { Idle: "", Execute: "run", Completed: "full", Starting: "move", Completing: "move", Resetting: "move",
-    Resuming: "move", Unholding: "move", Pausing: "pause", Paused: "pause", Holding: "hold", Held: "hold",
-    Stopping: "stop", Stopped: "stop", Aborting: "abort", Aborted: "abort" };
+  const STYLES = { Idle: "idle", Execute: "run", Completed: "full", Starting: "move", Completing: "move",
+    Resetting: "move", Resuming: "move", Unholding: "move", Pausing: "pause", Paused: "pause", Holding: "hold",
+    Held: "hold", Stopping: "stop", Stopped: "stop", Aborting: "abort", Aborted: "abort" };
   const chosen = {};
   const LOUD = new Set(["Stop", "Abort"]), SURE = new Set(["Abort"]), NOT_HIS = { denied: true };
   // A value as it is read: with its unit, or by its text where it has one.
@@ -15,10 +15,9 @@ const modules = (() => {
     const more = each.is_good ? "" : words.say("badQuality", told);
     return make("span", { class: each.is_good ? null : "bad" }, `${words.visible(each.label)}: ${text.trim()}`, more);
   }
-  const state = code => {
-    const name = words.state(code);
-    return make("span", { class: `state ${STYLES[name] ?? ""}`.trim() }, name);
-  };
+  // How a state is drawn, by its name.
+  const style = name => STYLES[name] ?? "unreported";
+  const state = code => make("span", { class: `state ${style(words.state(code))}` }, words.state(code));
   // The modes and sources into which the person may put a service.
   function choices(tag, service) {
     const { Mode, Src } = service.view, why = service.may_choose ? null : NOT_HIS;
@@ -72,7 +71,7 @@ const modules = (() => {
   const choose = each => { chosen[each.dataset.tag] = each.value; };
   // What a module shows that is in its place.
   const shown = each => [make("div", { class: "values" }, ...each.values.map(value)),
-    ...each.services.map(own => service(each.tag, own))];
+    ...each.services.map(own => service(each.tag, own)), trends.place(each.tag)];
   function module(each) {
     const style = each.ticket !== null ? "away" : each.is_there ? "" : "gone";
     const isOld = each.ticket === null && !each.is_there;
@@ -91,5 +90,5 @@ const modules = (() => {
         button(words.say("plugIt", name), { do: "plug", tag, package: name }, why)));
   }
   const show = live => draw.into("module-list", ...live.modules.map(module), ...live.absent.map(absent));
-  return { show, choose };
+  return { show, choose, style };
 })();

@@ -2,8 +2,9 @@
 "use strict";
 const page = (() => {
   const by = id => document.getElementById(id);
-  // In milliseconds: how long a deed that wants a second press waits for it, and how long an answer is shown.
-  const SURE = 5000, SHOWN = 9000, BEAT = 1000, SILENCE = 16000;
+  // In milliseconds: how long a deed that wants a second press waits for it, how long an answer is shown, and how often
+  // trends are asked for.
+  const SURE = 5000, SHOWN = 9000, BEAT = 1000, SILENCE = 16000, TRENDS = 2000;
   const state = { live: null, ahead: 0, heard: 0, stream: null, person: localStorage.person ?? "" };
   const now = () => Date.now() + state.ahead;
 
@@ -80,12 +81,16 @@ const page = (() => {
     document.title = words.say("plantNow");
     people();
     link();
+    trends.control();
     if (!state.live) return;
     by("counts").textContent = words.say("entriesOf", words.number(state.live.entries));
+    by("counts").title = [state.live.begun, state.live.sum].filter(each => each).join(", ");
+    draw.into("renew", draw.button(words.say("deed_renew"), { do: "renew" }, state.live.renew, { sure: true }));
     modules.show(state.live);
     batches.show(state.live);
     lists.show(state.live, now());
     since();
+    charts.paintAll(state.live);
     document.body.dataset.ready = "yes";
   }
 
@@ -94,10 +99,12 @@ const page = (() => {
     state.stream?.close();
     state.stream = new EventSource(`live?by=${encodeURIComponent(state.person)}`);
     state.stream.addEventListener("message", told => {
+      const isFirst = state.live === null;
       state.live = JSON.parse(told.data);
       state.ahead = state.live.now - Date.now();
       state.heard = Date.now();
       show();
+      if (isFirst) trends.ask();
     });
     state.stream.addEventListener("beat", () => { state.heard = Date.now(); link(); });
     state.stream.addEventListener("open", () => { state.heard = Date.now(); link(); });
@@ -111,20 +118,37 @@ const page = (() => {
     words.set(isGerman);
     localStorage.german = isGerman ? "yes" : "";
     show();
+    trends.show();
   }
   document.addEventListener("click", event => {
-    const button = event.target.closest("button[data-deed]");
-    if (button && !button.disabled) press(button);
+    const button = event.target.closest("button");
+    if (button?.dataset.deed && !button.disabled) press(button);
+    if (button?.dataset.chartOf) {
+      charts.toggle(button.dataset.chartOf);
+      show();
+    }
   });
   document.addEventListener("change", event => {
     const { recipe, tag } = event.target.dataset;
     if (recipe !== undefined) batches.choose(event.target);
     if (tag !== undefined) modules.choose(event.target);
+    if (event.target.id === "span") trends.choose(event.target);
     show();
+    trends.ask();
   });
   by("by").addEventListener("change", choosePerson);
   by("language").addEventListener("click", () => language(!words.isGerman()));
+  // The colours and the room are others: all is drawn anew.
+  function repaint() {
+    paint.repaint();
+    show();
+    trends.show();
+  }
+  matchMedia("(prefers-color-scheme: dark)").addEventListener("change", repaint);
+  addEventListener("resize", repaint);
   setInterval(() => { link(); since(); if (state.live) lists.show(state.live, now()); since(); }, BEAT);
+  setInterval(trends.ask, TRENDS);
+  paint.repaint();
   language(localStorage.german === undefined ? navigator.language.startsWith("de") : localStorage.german === "yes");
   listen();
   return { would, show, state };

@@ -74,10 +74,10 @@ const trends = (() => {
       const first = Math.max(0, spans.below(at, Math.max(this.batch.started, pane.entries[0])));
       for (let k = first; k < at.length && at[k] <= last; k += 1) {
         const x = Math.max(pane.edge - 2, pane.x(view.value(Math.max(this.batch.started, at[k]))));
-        pen = step(g, pen, x, place(value[k]));
+        pen = pens.step(g, pen, x, place(value[k]));
       }
       if (pen) {
-        flush(g, pen);
+        pens.flush(g, pen);
         g.lineTo(Math.min(pane.width + 2, pane.x(view.value(Math.min(end, view.count)))), pen.y);
       }
       g.stroke();
@@ -89,26 +89,6 @@ const trends = (() => {
       pane.g.fillStyle = paint.colours.cursor;
       pane.g.beginPath(); pane.g.arc(pane.x(pane.view.middle(cursor)), place(value), 3.5, 0, 7); pane.g.fill();
     }
-  }
-  // The pen goes to a new value: level to its place, then up or down. NaN lifts it.
-  function step(g, pen, x, y) {
-    if (Number.isNaN(y)) {
-      if (pen) flush(g, pen);
-      if (pen) g.lineTo(x, pen.y);
-      return null;
-    }
-    if (!pen) {
-      g.moveTo(x, y);
-      return { x, y, top: y, foot: y };
-    }
-    if (x - pen.x < 1) return { x: pen.x, y, top: Math.min(pen.top, y), foot: Math.max(pen.foot, y) };
-    flush(g, pen);
-    g.lineTo(x, pen.y); g.lineTo(x, y);
-    return { x, y, top: y, foot: y };
-  }
-  function flush(g, pen) {
-    if (pen.top === pen.foot) return;
-    g.lineTo(pen.x, pen.top); g.lineTo(pen.x, pen.foot); g.lineTo(pen.x, pen.y);
   }
   // The trends of a batch: one for each variable that its chart reads and its modules reported.
   function of(batch, history) {
