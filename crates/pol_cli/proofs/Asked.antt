@@ -44,6 +44,7 @@ IsOfNoJob status.BadWords = Unit {0}
 IsOfNoJob status.DiskFault = Unit {0}
 IsOfNoJob (status.NotAStore place) = Unit {0}
 IsOfNoJob (status.NotALedger place) = Unit {0}
+IsOfNoJob status.InUse = Unit {0}
 IsOfNoJob _ = ⊥
 
 -- a status of a job over lines tells of no disk
@@ -59,6 +60,7 @@ of_no_disk words (status.BadPolicy path fault) never = tt
 of_no_disk words status.DiskFault never = absurd (never tt)
 of_no_disk words (status.NotAStore place) never = absurd (never tt)
 of_no_disk words (status.NotALedger place) never = absurd (never tt)
+of_no_disk words status.InUse never = absurd (never tt)
 
 -- nothing that can't come is one of them
 never_refused : (reason : Infallible) → IsOfNoJob (no_refusal reason) → ⊥

@@ -52,7 +52,7 @@ use Rattle.pol_cli.specs.Worked.{Disks, Edges, File, a_file, no_file, no_source}
 use Rattle.pol_cli.specs.declared.status.Wanted.TheVariants.{Site, Policy}
 use Rattle.pol_cli.specs.declared.status.Status.{Status}
 use Rattle.pol_cli.specs.declared.status.Status.TheVariants.{Good, BadWords, WriteFault, OutOfMemory}
-use Rattle.pol_cli.specs.declared.status.Status.TheVariants.{BadPolicy, DiskFault, NotAStore, NotALedger}
+use Rattle.pol_cli.specs.declared.status.Status.TheVariants.{BadPolicy, DiskFault, NotAStore, NotALedger, InUse}
 
 -- the output of the demo of a seed: nothing for lines, and in all the summary of its journal
 abbrev pub demonstrated : ℕ → Output Infallible
@@ -253,11 +253,12 @@ abbrev pub AskForKept : List (List ℕ) → Type 0
 AskForKept words = Means words Keep ⊎ AskForJournal words
 
 -- the words ask for a job that may end with this status: with 10 one on a kept or an operated plant, with 11 one on a
--- kept plant, with 12 one on an operated plant, and with another any
+-- kept plant, with 12 one on an operated plant, with 13 none, which the program tells in place of 10, and with another any
 abbrev pub AskForDiskOf : List (List ℕ) → Status → Type 0
 AskForDiskOf words DiskFault = AskForKept words ⊎ Means words Operate
 AskForDiskOf words (NotAStore place) = AskForKept words
 AskForDiskOf words (NotALedger place) = Means words Operate ⊎ AskForJournal words
+AskForDiskOf words InUse = ⊥
 AskForDiskOf words _ = Unit {0}
 
 -- Which status comes where the words mean a task, and where they mean none.
@@ -269,5 +270,5 @@ pub record GoesByWords (words : List (List ℕ)) (source sink : Edges) (status :
   -- where they mean none 2 comes, or 5 for want of memory, and source and sink are as they were
   pub refused : ((task : Task) → Means words task → ⊥) →
       ((status ≡ BadWords) ⊎ (status ≡ OutOfMemory)) × source.Untouched × sink.Untouched
-  -- 10, 11 and 12 come only where they ask for a job on the disk of which these tell
+  -- 10, 11 and 12 come only where they ask for a job on the disk of which these tell, and 13 never
   pub of_disk : AskForDiskOf words status

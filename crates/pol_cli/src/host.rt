@@ -32,14 +32,16 @@ fn unread(error: &io::Error) -> Status {
 }
 
 // Does what the words ask for, with the runtime's input, output and clock, and with this disk, this ledger and this file.
-fn do_asked<R, D: Disk + Drop, L: Disk + Drop, F: Read + Drop>(
+fn do_asked<R, D: Disk + Drop, L: Disk + Drop, F: Read + Drop, U: Fn(&L) -> bool>(
     rt: &R,
     disk: D,
     ledger: L,
+    is_in_use: &U,
     file: Option<F>,
 ) -> Status
 where
     R: Env + Input + Print + Clock + AllocGlobal + Threads + Wait + Sync,
+    requires { U.IsAlwaysCallable is_in_use.now }
 {
     let words = match words(rt) {
         Ok(words) => words,
@@ -52,7 +54,7 @@ where
     let mut sink = WriterSink::new(out);
     let clock = SystemClock::new(rt);
     let mut file = file.map(ReaderSource::new);
-    let (status, _disk, _ledger) = top(
+    let (status, _disk, ledger) = top(
         rt,
         rt.alloc(),
         &words,
@@ -64,7 +66,7 @@ where
         ledger,
         &mut file,
     );
-    end(status, &mut sink)
+    end(status.told_of_use(is_in_use(&ledger)), &mut sink)
 }
 
 // Says how the job ended, where not all is good. That standard error takes it is not asked.
@@ -84,17 +86,19 @@ fn say<R: Eprint + AllocGlobal>(rt: &R, status: &Status) {
 /// The program: it does what its words ask for (`top`), keeps a plant on this disk, or one that is operated on this
 /// ledger, or writes the journal of one of them, of the operated one where its file is given, where they ask for that,
 /// hands on what it wrote (`end`), says on standard error how it ended where not all is good, and ends with the status's
-/// number.
-pub fn run<R, D: Disk + Drop, L: Disk + Drop, F: Read + Drop>(
+/// number. Where the ledger failed since another program has it open, as the ledger is asked, that is the status.
+pub fn run<R, D: Disk + Drop, L: Disk + Drop, F: Read + Drop, U: Fn(&L) -> bool>(
     rt: &R,
     disk: D,
     ledger: L,
+    is_in_use: &U,
     file: Option<F>,
 ) -> ExitCode
 where
     R: Env + Input + Print + Eprint + Clock + AllocGlobal + Threads + Wait + Sync,
+    requires { U.IsAlwaysCallable is_in_use.now }
 {
-    let status = do_asked(rt, disk, ledger, file);
+    let status = do_asked(rt, disk, ledger, is_in_use, file);
     say(rt, &status);
     ExitCode::from(status.number())
 }

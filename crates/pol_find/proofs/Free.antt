@@ -29,7 +29,7 @@ use Rattle.pol_table.proofs.ByteOrder.{order_length, order_sorted}
 use Rattle.pol_core.specs.Calls.{module_sight}
 use Rattle.pol_match.specs.Bindings.{AreInOrder, name_cmp, tags_in}
 use Rattle.pol_match.specs.Fits.{PlainCandidate}
-use Rattle.pol_find.specs.Candidates.{candidate_in, candidate_of, candidate_with, candidates_in, candidates_of}
+use Rattle.pol_find.specs.Candidates.{candidate_in, candidate_of, candidate_with, docked_candidates_of, candidates_by, candidates_of}
 use Rattle.pol_find.specs.Candidates.{docked_candidate_of, docked_candidate_with, idle_services, is_docked, is_idle_at}
 use Rattle.pol_find.specs.Candidates.{is_seen_idle}
 use Rattle.pol_find.specs.declared.candidates.Pool.{Pool}
@@ -163,7 +163,7 @@ tag_spare history tag candidate is =
 
 -- so is each docked candidate
 pub candidate_spare : (history : History) (candidate : PlainCandidate) →
-    Contains (candidates_in Docked history) candidate → IsSpare history candidate
+    Contains (docked_candidates_of history) candidate → IsSpare history candidate
 candidate_spare history candidate inside =
     let (tag, member, is) = made_of (docked_candidate_of history) (in_byte_order (present_tags history)) candidate
     inside in
@@ -197,7 +197,7 @@ tags_kept pool history (tag ∷ tags) = go (candidate_in pool history tag) refl 
         ∙ ap (λ later. tag ∷ later) rest
 
 -- the tags stand in byte order, each once
-pub candidates_in_order : (pool : Pool) (history : History) → AreInOrder (candidates_in pool history)
+pub candidates_in_order : (pool : Pool) (history : History) → AreInOrder (candidates_by (candidate_in pool history) history)
 candidates_in_order pool history =
     let tags = in_byte_order (present_tags history) in
     subst (IsStrictlySortedBy name_cmp) (sym (tags_kept pool history tags))
@@ -251,7 +251,7 @@ present_few (entry ∷ history) legal =
 
 -- the candidates of a legal history are at most as many
 pub candidates_few : (pool : Pool) (history : History) → IsLegal history →
-    length (candidates_in pool history) ≤ MOST_MODULES
+    length (candidates_by (candidate_in pool history) history) ≤ MOST_MODULES
 candidates_few pool history legal = omega (
   arith,
   length_filter_map (candidate_in pool history) (in_byte_order (present_tags history)),

@@ -18,7 +18,7 @@ use Rattle.pol_match.specs.Chosen.{binding_of, short_roles, short_tags}
 use Rattle.pol_match.specs.Fits.{PlainCandidate, fits_role, steps_of}
 use Rattle.pol_match.proofs.Ways.{told_least}
 use Rattle.pol_find.specs.Bindings.{OffersAreTold}
-use Rattle.pol_find.specs.Candidates.{candidate_of, candidate_with, candidates_in, candidates_of, docked_candidate_of}
+use Rattle.pol_find.specs.Candidates.{candidate_of, candidate_with, docked_candidates_of, candidates_of, docked_candidate_of}
 use Rattle.pol_find.specs.Candidates.{idle_services, is_docked}
 use Rattle.pol_find.specs.Lines.{bind_object, names_data, offer_object, short_object}
 use Rattle.pol_find.specs.Offers.{allocation_of, is_all_stepped, is_stepped, offer_with}
@@ -72,12 +72,12 @@ tags_unheld history [] = refl
 tags_unheld history (tag ∷ tags) = one_unheld history tag _ _ (tags_unheld history tags)
 
 -- of all
-all_unheld : (history : History) → candidates_of history ≡ filter (is_unheld history) (candidates_in Docked history)
+all_unheld : (history : History) → candidates_of history ≡ filter (is_unheld history) (docked_candidates_of history)
 all_unheld history = tags_unheld history (in_byte_order (present_tags history))
 
 -- one that a batch holds fits no role with a step
 held_fit_none : (history : History) (chart : PlainChart) →
-    FitNone chart (is_unheld history) (candidates_in Docked history)
+    FitNone chart (is_unheld history) (docked_candidates_of history)
 held_fit_none history chart candidate role inside held stepped = go (fits_role chart role candidate) refl
   where
     go : (fit : Bool) → fits_role chart role candidate ≡ fit → fit ≡ false
@@ -120,7 +120,7 @@ offers_are_told history recipe stepped =
     (go (binding_of recipe.chart docked) refl))
   where
     docked : List PlainCandidate
-    docked = candidates_in Docked history
+    docked = docked_candidates_of history
 
     none : FitNone recipe.chart (is_unheld history) docked
     none = held_fit_none history recipe.chart

@@ -23,7 +23,7 @@ use Rattle.pol_history.proofs.Accepted.{NoneHolds, otherwise_it_is, with_room}
 use Rattle.pol_history.proofs.Binds.{all_member}
 use Rattle.pol_match.specs.Fits.{PlainCandidate, fits_role, services_in, steps_of}
 use Rattle.pol_match.proofs.Ways.{told_least}
-use Rattle.pol_find.specs.Candidates.{candidates_in, candidates_of}
+use Rattle.pol_find.specs.Candidates.{docked_candidates_of, candidates_of}
 use Rattle.pol_find.specs.Recipes.{PlainRecipe, recipes_of}
 use Rattle.pol_find.specs.Starts.{BindingsStart, IsDone, OffersStart, ToldBindingsStart, ToldOffersStart}
 use Rattle.pol_find.specs.declared.candidates.Pool.TheVariants.{Free, Docked}
@@ -101,13 +101,13 @@ stepped_free history chart role candidate spare fit stepped =
 -- after any history each recipe starts a new batch with each of its bindings to docked modules
 pub offers_start : OffersStart
 offers_start history recipe binds at batch legal orderly known binding new room space =
-    parted_starts history recipe (candidates_in Docked history) (has_step (steps_of recipe.chart)) binds at batch legal
+    parted_starts history recipe (docked_candidates_of history) (has_step (steps_of recipe.chart)) binds at batch legal
     orderly known
     (record {
       binding = binding;
       docked = λ candidate inside. (candidate_spare history candidate inside).docked;
       free = λ bind inside held.
-          let for = for_bind recipe.chart (candidates_in Docked history) binds bind binding inside in
+          let for = for_bind recipe.chart (docked_candidates_of history) binds bind binding inside in
           ap (holder_of history) (sym for.tagged)
           ∙ stepped_free history recipe.chart bind.role for.candidate
           (candidate_spare history for.candidate for.inside) for.fit held;
@@ -119,5 +119,5 @@ offers_start history recipe binds at batch legal orderly known binding new room 
 pub told_offers_start : ToldOffersStart
 told_offers_start history recipe binds at batch legal orderly known told new room space =
     offers_start history recipe binds at batch legal orderly known
-    (told_least recipe.chart (candidates_in Docked history) binds (candidates_in_order Docked history) told).binding new
+    (told_least recipe.chart (docked_candidates_of history) binds (candidates_in_order Docked history) told).binding new
     room space

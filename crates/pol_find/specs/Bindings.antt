@@ -2,19 +2,18 @@
 use Rattle.std.specs.Prelude.{ℕ, ◌≡◌, List, true, codes}
 use Rattle.pol_history.specs.Looking.{History}
 use Rattle.pol_record.specs.Texts.{line_text, under_key}
-use Rattle.pol_find.specs.Candidates.{candidates_in, candidates_of}
+use Rattle.pol_find.specs.Candidates.{docked_candidates_of, candidates_of}
 use Rattle.pol_find.specs.Offers.{is_all_stepped, offer_of, offers_of}
 use Rattle.pol_find.specs.Recipes.{PlainRecipe, recipes_of}
 use Rattle.pol_find.specs.Told.{told_of}
-use Rattle.pol_find.specs.declared.candidates.Pool.TheVariants.{Docked}
 
 -- the line of the bindings: what each recipe is offered, with the modules that are docked
 abbrev pub bindings_text : History → List ℕ
 bindings_text history =
-    line_text (under_key (codes "bindings") (offers_of (candidates_in Docked history) (recipes_of history)))
+    line_text (under_key (codes "bindings") (offers_of (docked_candidates_of history) (recipes_of history)))
 
 -- where each role of a recipe has a step, it is offered what a finder tells of it
 abbrev pub OffersAreTold : Type 0
 OffersAreTold =
     (history : History) (recipe : PlainRecipe) → is_all_stepped recipe.chart ≡ true
-    → offer_of (candidates_in Docked history) recipe ≡ told_of (candidates_of history) recipe
+    → offer_of (docked_candidates_of history) recipe ≡ told_of (candidates_of history) recipe

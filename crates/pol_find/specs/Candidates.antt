@@ -50,9 +50,13 @@ abbrev pub candidate_of : History → List ℕ → Option PlainCandidate
 candidate_of history tag =
     if is_free history tag then option_map (candidate_with history tag) (description_of history tag) else None
 
+-- what is made of the tags that are there, in byte order
+abbrev pub candidates_by : (List ℕ → Option PlainCandidate) → History → List PlainCandidate
+candidates_by make history = filter_map make (in_byte_order (present_tags history))
+
 -- the candidates: the tags that are free, in byte order
 abbrev pub candidates_of : History → List PlainCandidate
-candidates_of history = filter_map (candidate_of history) (in_byte_order (present_tags history))
+candidates_of history = candidates_by (candidate_of history) history
 
 -- those services of a description that a step could be given: of a tag that a batch holds none
 abbrev pub spare_services : History → List ℕ → PlainDescription → List (List ℕ)
@@ -70,11 +74,11 @@ docked_candidate_of history tag =
     if is_docked (docking_of history tag)
     then option_map (docked_candidate_with history tag) (description_of history tag) else None
 
+-- those: the tags that are docked, in byte order
+abbrev pub docked_candidates_of : History → List PlainCandidate
+docked_candidates_of history = candidates_by (docked_candidate_of history) history
+
 -- the tag as a candidate of a pool
 abbrev pub candidate_in : Pool → History → List ℕ → Option PlainCandidate
 candidate_in Free = candidate_of
 candidate_in Docked = docked_candidate_of
-
--- the candidates of a pool, in byte order
-abbrev pub candidates_in : Pool → History → List PlainCandidate
-candidates_in pool history = filter_map (candidate_in pool history) (in_byte_order (present_tags history))

@@ -13,10 +13,9 @@ use Rattle.pol_history.specs.Looking.{History}
 use Rattle.pol_history.specs.Runs.{IsLegal, IsOrderly}
 use Rattle.pol_match.specs.Bindings.{IsBinding}
 use Rattle.pol_match.specs.Chosen.{binding_of}
-use Rattle.pol_find.specs.Candidates.{candidates_in, candidates_of}
+use Rattle.pol_find.specs.Candidates.{docked_candidates_of, candidates_of}
 use Rattle.pol_find.specs.Offers.{allocation_of}
 use Rattle.pol_find.specs.Recipes.{PlainRecipe, recipes_of}
-use Rattle.pol_find.specs.declared.candidates.Pool.TheVariants.{Docked}
 
 -- the start of a batch of a recipe that holds the modules of a binding, and watches none
 abbrev pub start_with : ℕ → List ℕ → PlainRecipe → List Bind → PlainEvent
@@ -54,7 +53,7 @@ abbrev pub OffersStart : Type 0
 OffersStart =
     (history : History) (recipe : PlainRecipe) (binds : List Bind) (at : ℕ) (batch : List ℕ) → IsLegal history
     → IsOrderly history → Contains (recipes_of history) recipe
-    → IsBinding recipe.chart (candidates_in Docked history) binds → start_of history batch ≡ None
+    → IsBinding recipe.chart (docked_candidates_of history) binds → start_of history batch ≡ None
     → length (filter is_start history) < MOST_BATCHES → is_full history ≡ false
     → IsDone history (offered_start at batch recipe binds)
 
@@ -63,6 +62,6 @@ abbrev pub ToldOffersStart : Type 0
 ToldOffersStart =
     (history : History) (recipe : PlainRecipe) (binds : List Bind) (at : ℕ) (batch : List ℕ) → IsLegal history
     → IsOrderly history → Contains (recipes_of history) recipe
-    → binding_of recipe.chart (candidates_in Docked history) ≡ Some binds → start_of history batch ≡ None
+    → binding_of recipe.chart (docked_candidates_of history) ≡ Some binds → start_of history batch ≡ None
     → length (filter is_start history) < MOST_BATCHES → is_full history ≡ false
     → IsDone history (offered_start at batch recipe binds)

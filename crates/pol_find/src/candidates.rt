@@ -5,7 +5,7 @@ ghost use Rattle.mtp_desc.specs.PlainDescription.{plain_description};
 ghost use Rattle.pol_history.specs.Runs.{IsLegal};
 ghost use Rattle.pol_core.specs.Plants.{plant_history};
 ghost use Rattle.pol_match.specs.Candidates.{plain_candidate, plain_candidates};
-ghost use Rattle.pol_find.specs.Candidates.{candidate_in, candidate_of, candidates_in, docked_candidate_of};
+ghost use Rattle.pol_find.specs.Candidates.{candidate_in, candidate_of, candidates_by, docked_candidate_of};
 ghost use Rattle.pol_find.specs.Candidates.{idle_services, is_idle_at, spare_services};
 
 use chart_cursor::Sight;
@@ -134,8 +134,8 @@ pub(crate) fn candidates(
     pool: Pool,
 ) -> Result<Vec<Candidate>, AllocError>
     requires { IsLegal (plant_history plant.now) }
-    ensures { IfOk result (λ candidates.
-        plain_candidates candidates.items ≡ candidates_in pool (plant_history plant.now)) }
+    ensures { IfOk result (λ candidates. plain_candidates candidates.items
+        ≡ candidates_by (candidate_in pool (plant_history plant.now)) (plant_history plant.now)) }
 {
     let mut candidates = Vec::new(alloc);
     let mut place = 0;

@@ -22,11 +22,12 @@ use Rattle.pol_match.specs.Fits.{PlainCandidate}
 use Rattle.pol_compaction.specs.Alike.{AnswersAlike, IsSameModule, LooksSame}
 use Rattle.pol_compaction.specs.Lasting.{closed_batches}
 use Rattle.pol_runs.proofs.Wanted.{filter_same}
-use Rattle.pol_find.specs.Bindings.{told_of_each}
-use Rattle.pol_find.specs.Candidates.{candidate_of, candidate_with, candidates_of, is_docked}
-use Rattle.pol_find.specs.Candidates.{is_free, is_idle_at, is_seen_idle}
+use Rattle.pol_find.specs.Candidates.{candidate_of, candidate_with, candidates_by, candidates_of, docked_candidate_of}
+use Rattle.pol_find.specs.Candidates.{docked_candidate_with, docked_candidates_of, idle_services, is_docked, is_free}
+use Rattle.pol_find.specs.Candidates.{is_idle_at, is_seen_idle}
 use Rattle.pol_find.specs.Found.{Follows, TellsEach}
 use Rattle.pol_find.specs.Lines.{bad_text}
+use Rattle.pol_find.specs.Offers.{offers_of}
 use Rattle.pol_find.specs.Recipes.{made_known, recipe_in, recipes_of}
 use Rattle.pol_record.specs.Texts.{line_text, under_key}
 use Rattle.pol_renewed.proofs.Renewing.{alike_renewed}
@@ -51,6 +52,13 @@ absent_none history tag is =
     ap (λ docking. if is_docked docking && is_none (holder_of history tag)
     then option_map (candidate_with history tag) (description_of history tag) else None) is
 
+-- nor one to be held or watched
+absent_undocked : (history : History) (tag : List ℕ) → docking_of history tag ≡ absent →
+    docked_candidate_of history tag ≡ None
+absent_undocked history tag is =
+    ap (λ docking. if is_docked docking
+    then option_map (docked_candidate_with history tag) (description_of history tag) else None) is
+
 module _ (whole less : History) (tag : List ℕ) (looks : LooksSame (past tag whole) (past tag less)) where
   -- its services are seen the same
   view_same : (service : List ℕ) → view_of less tag service ≡ view_of whole tag service
@@ -65,17 +73,22 @@ module _ (whole less : History) (tag : List ℕ) (looks : LooksSame (past tag wh
       ap (λ docking. is_seen_idle (module_sight docking (view_of less tag service))) looks.stands.docking
       ∙ ap (λ view. is_seen_idle (module_sight (docking_of whole tag) view)) (view_same service)
 
+  -- and the same of them are
+  services_same : (description : PlainDescription) →
+      idle_services less tag description ≡ idle_services whole tag description
+  services_same description =
+      filter_same (is_idle_at less tag) (is_idle_at whole tag) (map (λ service. service.name) description.services)
+      (λ service inside. idle_same service)
+
+  -- the tag as a candidate with these idle services
+  abbrev described : PlainDescription → List (List ℕ) → PlainCandidate
+  described description idle = record { tag = tag; description = description; idle = idle }
+
   -- so it is the same candidate, by each description
   with_same : (description : Option PlainDescription) →
       option_map (candidate_with less tag) description ≡ option_map (candidate_with whole tag) description
   with_same None = refl
-  with_same (Some description) =
-      ap (λ idle. Some (candidate description idle))
-      (filter_same (is_idle_at less tag) (is_idle_at whole tag) (map (λ service. service.name) description.services)
-      (λ service inside. idle_same service))
-    where
-      candidate : PlainDescription → List (List ℕ) → PlainCandidate
-      candidate description idle = record { tag = tag; description = description; idle = idle }
+  with_same (Some description) = ap (λ idle. Some (described description idle)) (services_same description)
 
   -- where it is free
   there_same : holder_of less tag ≡ holder_of whole tag → candidate_of less tag ≡ candidate_of whole tag
@@ -87,6 +100,27 @@ module _ (whole less : History) (tag : List ℕ) (looks : LooksSame (past tag wh
       ∙ ap (λ description. if is_free whole tag then option_map (candidate_with less tag) description else None)
       looks.stands.description
       ∙ ap (λ found. if is_free whole tag then found else None) (with_same (description_of whole tag))
+
+  -- and the same to be held or watched, by each description
+  docked_with_same : holder_of less tag ≡ holder_of whole tag → (description : Option PlainDescription) →
+      option_map (docked_candidate_with less tag) description
+      ≡ option_map (docked_candidate_with whole tag) description
+  docked_with_same held None = refl
+  docked_with_same held (Some description) =
+      ap (λ holder. Some (described description (if is_none holder then idle_services less tag description else [])))
+      held
+      ∙ ap (λ idle. Some (described description (if is_none (holder_of whole tag) then idle else [])))
+      (services_same description)
+
+  -- where it is docked
+  docked_same : holder_of less tag ≡ holder_of whole tag → docked_candidate_of less tag ≡ docked_candidate_of whole tag
+  docked_same held =
+      ap (λ docking. if is_docked docking
+      then option_map (docked_candidate_with less tag) (description_of less tag) else None) looks.stands.docking
+      ∙ ap (λ description. if is_docked (docking_of whole tag)
+      then option_map (docked_candidate_with less tag) description else None) looks.stands.description
+      ∙ ap (λ found. if is_docked (docking_of whole tag) then found else None)
+      (docked_with_same held (description_of whole tag))
 
 -- ---- recipes
 
@@ -148,10 +182,26 @@ module _ (gone : List (List ℕ)) (whole less : History) (alike : AnswersAlike g
       go (inl gone) = absent_none less tag gone.1 ∙ sym (absent_none whole tag gone.0)
       go (inr looks) = there_same whole less tag looks (alike.running.holders tag)
 
+  -- and the same to be held or watched
+  docked_each : (tag : List ℕ) → docked_candidate_of less tag ≡ docked_candidate_of whole tag
+  docked_each tag = go (alike.modules tag)
+    where
+      go : IsSameModule (past tag whole) (past tag less) → docked_candidate_of less tag ≡ docked_candidate_of whole tag
+      go (inl gone) = absent_undocked less tag gone.1 ∙ sym (absent_undocked whole tag gone.0)
+      go (inr looks) = docked_same whole less tag looks (alike.running.holders tag)
+
+  -- what is the same of each tag is so of all
+  by_each : (one other : List ℕ → Option PlainCandidate) → ((tag : List ℕ) → one tag ≡ other tag) →
+      candidates_by one less ≡ candidates_by other whole
+  by_each one other same =
+      filter_map_same one other same (in_byte_order (present_tags less))
+      ∙ ap (λ tags. filter_map other (in_byte_order tags)) alike.same_tags
+
   candidates_same : candidates_of less ≡ candidates_of whole
-  candidates_same =
-      filter_map_same (candidate_of less) (candidate_of whole) candidate_same (in_byte_order (present_tags less))
-      ∙ ap (λ tags. filter_map (candidate_of whole) (in_byte_order tags)) alike.same_tags
+  candidates_same = by_each (candidate_of less) (candidate_of whole) candidate_same
+
+  docked_all : docked_candidates_of less ≡ docked_candidates_of whole
+  docked_all = by_each (docked_candidate_of less) (docked_candidate_of whole) docked_each
 
   recipes_same : recipes_of less ≡ recipes_of whole
   recipes_same =
@@ -164,9 +214,9 @@ module _ (gone : List (List ℕ)) (whole less : History) (alike : AnswersAlike g
     candidates = candidates_same;
     recipes = recipes_same;
     bindings =
-        ap (λ candidates. line_text (under_key (codes "bindings") (told_of_each candidates (recipes_of less))))
-        candidates_same
-        ∙ ap (λ recipes. line_text (under_key (codes "bindings") (told_of_each (candidates_of whole) recipes)))
+        ap (λ candidates. line_text (under_key (codes "bindings") (offers_of candidates (recipes_of less))))
+        docked_all
+        ∙ ap (λ recipes. line_text (under_key (codes "bindings") (offers_of (docked_candidates_of whole) recipes)))
         recipes_same;
     found = λ bad text found.
         subst (λ recipes. Follows (TellsEach (candidates_of less) recipes) (λ text. text ≡ bad_text bad) text)

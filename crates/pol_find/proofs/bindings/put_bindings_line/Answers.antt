@@ -5,7 +5,7 @@ use Rattle.pol_core.specs.Plants.{plant_history}
 use Rattle.pol_match.specs.Bindings.{AreInOrder}
 use Rattle.pol_match.specs.Candidates.{plain_candidate, plain_candidates}
 use Rattle.pol_record.specs.Texts.{line_text, under_key}
-use Rattle.pol_find.specs.Candidates.{candidates_in}
+use Rattle.pol_find.specs.Candidates.{docked_candidates_of}
 use Rattle.pol_find.specs.Offers.{offers_of}
 use Rattle.pol_find.specs.declared.candidates.Pool.TheVariants.{Docked}
 use Rattle.pol_find.proofs.Entries.{all_recipes, recipes_in}
@@ -32,6 +32,6 @@ returns c =
     let recipes = ap recipes_in c.history-history.ensures.entries ∙ all_recipes c.args.plant.now.entries in
     let text = ap (λ free. line_text (under_key (codes "bindings")
     (offers_of free (recipes_in c.history-history.result.now)))) candidates
-    ∙ ap (λ known. line_text (under_key (codes "bindings") (offers_of (candidates_in Docked history) known))) recipes in
+    ∙ ap (λ known. line_text (under_key (codes "bindings") (offers_of (docked_candidates_of history) known))) recipes in
     subst (λ (line : List ℕ). OnOk c.put_line.result (c.put_line.new.out.items ≡ c.args.out.now.items ++ line)) text
     c.put_line.ensures

@@ -9,7 +9,7 @@ use Rattle.pol_table.specs.ByteOrder.{in_byte_order}
 use Rattle.pol_table.proofs.ByteOrder.{order_length}
 use Rattle.pol_core.specs.Plants.{plant_history}
 use Rattle.pol_match.specs.Candidates.{plain_candidate, plain_candidates}
-use Rattle.pol_find.specs.Candidates.{candidate_in, candidates_in}
+use Rattle.pol_find.specs.Candidates.{candidate_in, candidates_by}
 use Rattle.pol_find.proofs.Free.{present_few}
 use Rattle.pol_find.proofs.Looked.{cut_end, looked_next}
 use Rattle.pol_find.proofs.candidates.candidates.Goals as goal
@@ -51,7 +51,7 @@ loop-tag-preserved c =
     ] in
     record {
       made = looked_next (candidate_in c.args.pool history) tags c.loop-tag.place c.in-Some.tag found before
-          (plain_candidates c.match-branch-2.candidates.items) (candidates_in c.args.pool history) (sym c.in-Some.ensures)
+          (plain_candidates c.match-branch-2.candidates.items) (candidates_by (candidate_in c.args.pool history) history) (sym c.in-Some.ensures)
           c.in_ok-candidate.ensures c.loop-tag.invariant.made told;
       low = let within = slice_get_within tags c.loop-tag.place c.in-Some.tag (sym c.in-Some.ensures) in omega arith;
     }
