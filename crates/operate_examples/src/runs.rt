@@ -98,7 +98,7 @@ const QUESTIONS: [(usize, &str, &str); 19] = [
     (
         0,
         r#"{"ask":"plant"}"#,
-        r#"{"plant":{"batches":[],"entries":0,"modules":[],"recipes":[]}}"#,
+        r#"{"plant":{"batches":[],"begun":"pol 1.0.0","entries":0,"modules":[],"near":[],"recipes":[],"sum":"d238d9dd85b92fb7e6b9e43308e1d8e1b13f9d464d5f02cb0c48a07fa2d640e9"}}"#,
     ),
     (
         1,
@@ -174,7 +174,7 @@ const QUESTIONS: [(usize, &str, &str); 19] = [
     (
         11,
         r#"{"ask":"plant","by":"ann"}"#,
-        r#"{"plant":{"batches":[{"batch":"b","bind":{"A":"M"},"hold":null,"outcome":"Running","recipe":"one","stopping":false,"watch":{}}],"entries":6,"modules":[{"holder":"b","services":[{"may":0,"name":"dose","view":{"CommandEn":4,"Mode":"Automatic","ProcedureCur":0,"Src":"External","StateCur":16}}],"tag":"M","ticket":null,"type":"Doser","values":[],"version":"1.0.0","watchers":[]}],"recipes":["one"]}}"#,
+        r#"{"plant":{"batches":[{"active":[{"service":"dose","step":"s1","tag":"M","view":{"CommandEn":4,"Mode":"Automatic","ProcedureCur":0,"Src":"External","StateCur":16}}],"batch":"b","bind":{"A":"M"},"hold":null,"next":{"state":16,"step":"s1","wait":"InState"},"outcome":"Running","recipe":"one","stopping":false,"unheld":[],"waits":[{"node":0,"obstacle":{"state":16,"step":"s1","wait":"InState"}}],"watch":{}}],"begun":"pol 1.0.0","entries":6,"modules":[{"holder":"b","services":[{"may":0,"name":"dose","view":{"CommandEn":4,"Mode":"Automatic","ProcedureCur":0,"Src":"External","StateCur":16}}],"tag":"M","ticket":null,"type":"Doser","values":[],"version":"1.0.0","watchers":[]}],"near":[],"recipes":["one"],"sum":"9017adcdb7fb66e82a79bc20edcd7d68735969bc0b1198a67422a5872c0f17a4"}}"#,
     ),
     (
         11,
@@ -236,18 +236,144 @@ const BY_HAND_ANSWERS: &str =
     r#"{"kept":0,"sum":"d238d9dd85b92fb7e6b9e43308e1d8e1b13f9d464d5f02cb0c48a07fa2d640e9"}
 {"done":true}
 {"done":true}
-{"plant":{"batches":[],"entries":2,"modules":[{"holder":null,"services":[{"may":260,"name":"dose","view":{"CommandEn":260,"Mode":"Operator","ProcedureCur":0,"Src":"External","StateCur":16}}],"tag":"M","ticket":null,"type":"Doser","values":[],"version":"1.0.0","watchers":[]}],"recipes":[]}}
-{"plant":{"batches":[],"entries":2,"modules":[{"holder":null,"services":[{"may":260,"name":"dose","view":{"CommandEn":260,"Mode":"Operator","ProcedureCur":0,"Src":"External","StateCur":16}}],"tag":"M","ticket":null,"type":"Doser","values":[],"version":"1.0.0","watchers":[]}],"recipes":[]}}
-{"plant":{"batches":[],"entries":2,"modules":[{"holder":null,"services":[{"may":0,"name":"dose","view":{"CommandEn":260,"Mode":"Operator","ProcedureCur":0,"Src":"External","StateCur":16}}],"tag":"M","ticket":null,"type":"Doser","values":[],"version":"1.0.0","watchers":[]}],"recipes":[]}}
+{"plant":{"batches":[],"begun":"pol 1.0.0","entries":2,"modules":[{"holder":null,"services":[{"may":260,"name":"dose","view":{"CommandEn":260,"Mode":"Operator","ProcedureCur":0,"Src":"External","StateCur":16}}],"tag":"M","ticket":null,"type":"Doser","values":[],"version":"1.0.0","watchers":[]}],"near":[],"recipes":[],"sum":"615a2e0e11c9972cd69d7ab3550ec96036a4a2999e90d7561e40ec38383f3e54"}}
+{"plant":{"batches":[],"begun":"pol 1.0.0","entries":2,"modules":[{"holder":null,"services":[{"may":260,"name":"dose","view":{"CommandEn":260,"Mode":"Operator","ProcedureCur":0,"Src":"External","StateCur":16}}],"tag":"M","ticket":null,"type":"Doser","values":[],"version":"1.0.0","watchers":[]}],"near":[],"recipes":[],"sum":"615a2e0e11c9972cd69d7ab3550ec96036a4a2999e90d7561e40ec38383f3e54"}}
+{"plant":{"batches":[],"begun":"pol 1.0.0","entries":2,"modules":[{"holder":null,"services":[{"may":0,"name":"dose","view":{"CommandEn":260,"Mode":"Operator","ProcedureCur":0,"Src":"External","StateCur":16}}],"tag":"M","ticket":null,"type":"Doser","values":[],"version":"1.0.0","watchers":[]}],"near":[],"recipes":[],"sum":"615a2e0e11c9972cd69d7ab3550ec96036a4a2999e90d7561e40ec38383f3e54"}}
 "#;
 
-// Which commands would go out is told by the policy, where a person is named; the end line's sum is no matter here.
+// Which commands would go out is told by the policy, where a person is named.
 #[test]
 fn a_mask_is_that_of_a_person(rt: HostRuntime) -> Result<(), Fail> {
     let alloc = rt.alloc();
     let run = operate_on(alloc, BY_HAND, empty_disk(alloc)?)?;
     assert!(rt; run.ended.is_ok());
     assert!(rt; run.output.starts_with(BY_HAND_ANSWERS.as_bytes()));
+    Ok(())
+}
+
+// ---- what an open batch does and waits for
+
+// Two doses at once. Both may start; both started and wait; the first is to be held and went to mode Operator, while the
+// second may be held; and then that doesn't enable Hold any more.
+const AT_ONCE: &str = r#"{"groups":[],"rules":[]}
+{"at":1,"desc":{"services":[{"name":"dose","procedures":[{"default":true,"number":1,"params":[],"self_completing":true}]}],"type":"Doser","variables":[],"version":"1.0.0"},"ev":"plug","tag":"M"}
+{"at":1,"desc":{"services":[{"name":"dose","procedures":[{"default":true,"number":1,"params":[],"self_completing":true}]}],"type":"Doser","variables":[],"version":"1.0.0"},"ev":"plug","tag":"N"}
+{"CommandEn":4,"Mode":"Automatic","ProcedureCur":0,"Src":"External","StateCur":16,"at":2,"ev":"report","service":"dose","tag":"M"}
+{"CommandEn":4,"Mode":"Automatic","ProcedureCur":0,"Src":"External","StateCur":16,"at":2,"ev":"report","service":"dose","tag":"N"}
+{"at":3,"chart":{"par":[{"procedure":1,"role":"A","service":"dose","settings":[],"step":"s1"},{"procedure":1,"role":"B","service":"dose","settings":[],"step":"s2"}]},"ev":"recipe","recipe":"two","roles":[{"role":"A","type":"Doser","version":"^1"},{"role":"B","type":"Doser","version":"^1"}]}
+{"at":4,"batch":"b","bind":{"A":"M","B":"N"},"ev":"start","recipe":"two"}
+{"ask":"plant"}
+{"at":5,"batch":"b","ev":"advance"}
+{"at":5,"batch":"b","ev":"advance"}
+{"CommandEn":24,"Mode":"Automatic","ProcedureCur":1,"Src":"External","StateCur":8,"at":6,"ev":"report","service":"dose","tag":"M"}
+{"CommandEn":24,"Mode":"Automatic","ProcedureCur":1,"Src":"External","StateCur":64,"at":6,"ev":"report","service":"dose","tag":"M"}
+{"CommandEn":24,"Mode":"Automatic","ProcedureCur":1,"Src":"External","StateCur":8,"at":6,"ev":"report","service":"dose","tag":"N"}
+{"ask":"plant"}
+{"at":7,"batch":"b","ev":"freeze","hold":true}
+{"CommandEn":24,"Mode":"Operator","ProcedureCur":1,"Src":"External","StateCur":64,"at":8,"ev":"report","service":"dose","tag":"M"}
+{"ask":"plant"}
+{"CommandEn":8,"Mode":"Automatic","ProcedureCur":1,"Src":"External","StateCur":8,"at":9,"ev":"report","service":"dose","tag":"N"}
+{"ask":"plant"}
+"#;
+
+// The lines that tell the plant: how each begins, up to its modules, and how it ends, behind them.
+const TOLD_AT_ONCE: [(&str, &str); 4] = [
+    (
+        r#"{"plant":{"batches":[{"active":[],"batch":"b","bind":{"A":"M","B":"N"},"hold":null,"next":{"did":{"do":"start","procedure":1,"service":"dose","step":"s1","tag":"M"}},"outcome":"Running","recipe":"two","stopping":false,"unheld":[],"waits":[],"watch":{}}],"begun":"pol 1.0.0","entries":6,"modules":["#,
+        r#"],"near":[],"recipes":["two"],"sum":"da3ea9017ef98df7d454483b731adc5e9505a2843c5c9fe61b7af88bb078c1f4"}}"#,
+    ),
+    (
+        r#"{"plant":{"batches":[{"active":[{"service":"dose","step":"s1","tag":"M","view":{"CommandEn":24,"Mode":"Automatic","ProcedureCur":1,"Src":"External","StateCur":64}},{"service":"dose","step":"s2","tag":"N","view":{"CommandEn":24,"Mode":"Automatic","ProcedureCur":1,"Src":"External","StateCur":8}}],"batch":"b","bind":{"A":"M","B":"N"},"hold":null,"next":{"state":64,"step":"s1","wait":"InState"},"outcome":"Running","recipe":"two","stopping":false,"unheld":[],"waits":[{"node":1,"obstacle":{"state":64,"step":"s1","wait":"InState"}},{"node":2,"obstacle":{"state":8,"step":"s2","wait":"InState"}}],"watch":{}}],"begun":"pol 1.0.0","entries":11,"modules":["#,
+        r#"],"near":[],"recipes":["two"],"sum":"fc31687198d00a3298d94f67d3e4caf0d8dd82f3cacaead1a19ffdd9dac7245a"}}"#,
+    ),
+    (
+        r#"{"plant":{"batches":[{"active":[{"service":"dose","step":"s1","tag":"M","view":{"CommandEn":24,"Mode":"Operator","ProcedureCur":1,"Src":"External","StateCur":64}},{"service":"dose","step":"s2","tag":"N","view":{"CommandEn":24,"Mode":"Automatic","ProcedureCur":1,"Src":"External","StateCur":8}}],"batch":"b","bind":{"A":"M","B":"N"},"hold":true,"next":{"did":{"do":"hold","service":"dose","step":"s2","tag":"N"}},"outcome":"Running","recipe":"two","stopping":false,"unheld":[{"by":"ModeForbids","step":"s1","tag":"M"}],"waits":[{"node":1,"obstacle":{"state":64,"step":"s1","wait":"InState"}},{"node":2,"obstacle":{"state":8,"step":"s2","wait":"InState"}}],"watch":{}}],"begun":"pol 1.0.0","entries":13,"modules":["#,
+        r#"],"near":[],"recipes":["two"],"sum":"c360d4c3fb44639813970257a433cd3d11465833c3383cd0e6595958d2259540"}}"#,
+    ),
+    (
+        r#"{"plant":{"batches":[{"active":[{"service":"dose","step":"s1","tag":"M","view":{"CommandEn":24,"Mode":"Operator","ProcedureCur":1,"Src":"External","StateCur":64}},{"service":"dose","step":"s2","tag":"N","view":{"CommandEn":8,"Mode":"Automatic","ProcedureCur":1,"Src":"External","StateCur":8}}],"batch":"b","bind":{"A":"M","B":"N"},"hold":true,"next":{"wait":"Frozen"},"outcome":"Running","recipe":"two","stopping":false,"unheld":[{"by":"ModeForbids","step":"s1","tag":"M"},{"by":"NotEnabled","step":"s2","tag":"N"}],"waits":[{"node":1,"obstacle":{"state":64,"step":"s1","wait":"InState"}},{"node":2,"obstacle":{"state":8,"step":"s2","wait":"InState"}}],"watch":{}}],"begun":"pol 1.0.0","entries":14,"modules":["#,
+        r#"],"near":[],"recipes":["two"],"sum":"0ac2204e576fc365464f718b39c9ace5022fc69df692986c2d454111912d5235"}}"#,
+    ),
+];
+
+// An open batch tells its active steps, what comes next, what each branch waits for, and the steps that a hold doesn't
+// reach. The sums are SHA-256 over the records, by another program.
+#[test]
+fn an_open_batch_tells_what_it_waits_for(rt: HostRuntime) -> Result<(), Fail> {
+    let alloc = rt.alloc();
+    let run = operate_on(alloc, AT_ONCE, empty_disk(alloc)?)?;
+    assert!(rt; run.ended.is_ok());
+    let output = String::from_utf8(run.output).ok().ok_or("no text")?;
+    let mut told = 0;
+    for line in output.as_str().lines() {
+        if line.starts_with("{\"plant\":") {
+            let (front, back) = *TOLD_AT_ONCE.get(told).ok_or("a line more")?;
+            assert!(rt; line.starts_with(front), "{line}");
+            assert!(rt; line.ends_with(back), "{line}");
+            told += 1;
+        }
+    }
+    assert_eq!(rt; told, TOLD_AT_ONCE.len());
+    Ok(())
+}
+
+// ---- limits that are near
+
+// Puts the line of one more recipe behind an input.
+fn put_recipe(alloc: Global, input: &mut Vec<u8>, number: u32) -> Result<(), Fail> {
+    let name = format!(in alloc; "r{number}")?;
+    input.extend_from_slice(b"{\"ev\":\"recipe\",\"at\":1,\"recipe\":\"")?;
+    input.extend_from_slice(name.as_bytes())?;
+    put_line(
+        input,
+        r#"","roles":[{"role":"A","type":"Doser","version":"^1"}],"chart":{"step":"s","role":"A","service":"dose","procedure":1}}"#,
+    )
+}
+
+// The plant is asked at 57 recipes and at 58, of which six are left.
+fn many_recipes(alloc: Global) -> Result<Vec<u8>, Fail> {
+    let mut input = Vec::new(alloc);
+    put_line(&mut input, r#"{"groups":[],"rules":[]}"#)?;
+    for number in 0..57 {
+        put_recipe(alloc, &mut input, number)?;
+    }
+    put_line(&mut input, r#"{"ask":"plant"}"#)?;
+    put_recipe(alloc, &mut input, 57)?;
+    put_line(&mut input, r#"{"ask":"plant"}"#)?;
+    Ok(input)
+}
+
+// What the two lines that tell the plant have in front of the recipes.
+const NEAR: [&str; 2] = [
+    r#""modules":[],"near":[],"recipes":["r0","r1","#,
+    r#""modules":[],"near":["RecipesFull"],"recipes":["r0","r1","#,
+];
+
+// Where at most a tenth of a limit is left, the plant tells it, and so does the answer to the policy.
+#[test]
+fn a_limit_that_is_near_is_told(rt: HostRuntime) -> Result<(), Fail> {
+    let alloc = rt.alloc();
+    let input = String::from_utf8(many_recipes(alloc)?)
+        .ok()
+        .ok_or("no text")?;
+    let run = operate_on(alloc, input.as_str(), empty_disk(alloc)?)?;
+    assert!(rt; run.output.starts_with(br#"{"kept":0,"sum":"#));
+    let output = String::from_utf8(run.output).ok().ok_or("no text")?;
+    let mut told = 0;
+    for line in output.as_str().lines() {
+        if line.starts_with("{\"plant\":") {
+            let near = *NEAR.get(told).ok_or("a line more")?;
+            assert!(rt; line.contains(near), "{line}");
+            told += 1;
+        }
+    }
+    assert_eq!(rt; told, NEAR.len());
+    let again = operate_on(alloc, "{\"groups\":[],\"rules\":[]}\n", run.disk)?;
+    assert!(rt;
+        again
+            .output
+            .starts_with(br#"{"kept":58,"near":["RecipesFull"],"sum":"#)
+    );
     Ok(())
 }
 

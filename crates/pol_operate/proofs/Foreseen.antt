@@ -15,7 +15,7 @@ use Rattle.pol_events.specs.declared.answer.Answer.TheVariants.{Did}
 use Rattle.pol_history.specs.Answers.{answer_of}
 use Rattle.pol_history.specs.Batches.{chart_by, chart_of, start_by}
 use Rattle.pol_history.specs.Looking.{History, is_accepted, past_of_batch, recipes}
-use Rattle.pol_history.specs.Runs.{entry_of, recorded}
+use Rattle.pol_history.specs.Runs.{recorded}
 use Rattle.pol_ledger.specs.Items.{PlainAsked}
 use Rattle.pol_ledger.specs.Ledgers.{PlainLedger, asked_so_far, begun_by, ledger_state}
 use Rattle.pol_ledger.specs.Work.{history_of}

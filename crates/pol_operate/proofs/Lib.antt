@@ -11,3 +11,4 @@ pub mod Runs
 pub mod Foreseen
 pub mod Quiet
 pub mod Guarded
+pub mod Printable

@@ -4,7 +4,6 @@ use Rattle.std.proofs.Common.{if◌then◌else◌, ◌∙◌}
 use Rattle.pol_jobs.specs.LineWork.{Line, after_all, line_met, replies}
 use Rattle.pol_rights.specs.Rules.{PlainPlantPolicy}
 use Rattle.pol_ledger.specs.Work.{BegunLedger}
-use Rattle.pol_operate.specs.Questions.{asks}
 use Rattle.pol_operate.specs.QuestionLaws.{QuestionsChangeNothing, QuestionsMayBeLeftOut, WouldIsTheReply}
 use Rattle.pol_operate.specs.QuestionLaws.{is_question_to, replies_to_others, without_questions}
 use Rattle.pol_operate.specs.Work.{Known, operate_work}

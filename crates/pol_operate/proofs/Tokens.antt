@@ -11,8 +11,9 @@ use Rattle.serde_json.specs.Written.{items_outline}
 use Rattle.mtp_codes.specs.declared.value.Setting.{Setting}
 use Rattle.chart_json.specs.Written.{written_setting}
 use Rattle.mtp_json.specs.Written.{scalar_data}
+use Rattle.pol_events.specs.declared.answer.Rule.{Rule}
 use Rattle.pol_record.specs.Objects.{data_tokens}
-use Rattle.pol_operate.specs.Texts.{did_object, end_object, kept_object}
+use Rattle.pol_operate.specs.Texts.{did_object, end_object, kept_object, near_tokens}
 
 -- the tokens of the last settings of an array, and its bracket
 abbrev pub settings_tokens : List Setting → List Token
@@ -40,15 +41,17 @@ pub start_tokens : (old : List Token) (entry settings : Data) →
 unfolding did_object
 start_tokens old entry settings = simp append_assoc refl
 
--- a bracket, the number, the sum and a bracket behind other tokens are the tokens of what is kept
-pub kept_tokens : (old : List Token) (count : ℕ) (sum : List ℕ) →
-    ((((old ++ token.begin_object ∷ []) ++ token.key (codes "kept") ∷ []) ++ token.number (decimal count) ∷ [])
+-- a bracket, the number, the rules, the sum and a bracket behind other tokens are the tokens of what is kept
+pub kept_tokens : (old : List Token) (count : ℕ) (near : List Rule) (sum : List ℕ) →
+    (((((old ++ token.begin_object ∷ []) ++ token.key (codes "kept") ∷ []) ++ token.number (decimal count) ∷ [])
+    ++ near_tokens near)
     ++ token.key (codes "sum") ∷ token.string sum ∷ [])
     ++ token.end_object
     ∷ []
-    ≡ old ++ data_tokens (kept_object count sum)
+    ≡ old ++ data_tokens (kept_object count near sum)
 unfolding kept_object
-kept_tokens old count sum = simp append_assoc refl
+kept_tokens old count [] sum = simp append_assoc refl
+kept_tokens old count (first ∷ rules) sum = simp append_assoc refl
 
 -- a bracket, the end, the sum and a bracket behind other tokens are the tokens of the end
 pub end_tokens : (old : List Token) (sum : List ℕ) →

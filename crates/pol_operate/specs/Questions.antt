@@ -2,7 +2,6 @@
 use Rattle.std.specs.Prelude.{ℕ, ◌-◌, List, [], ◌++◌, length, map, reverse, take, Bool, true, false, codes, Option, Some}
 use Rattle.std.specs.Prelude.{None, Result, Ok, Err}
 use Rattle.event_json.specs.declared.fault.LineFault.{LineFault}
-use Rattle.named_lines.specs.Named.{PlainNamed}
 use Rattle.pol_find.specs.Bindings.{bindings_text}
 use Rattle.pol_jobs.specs.LineWork.{Line}
 use Rattle.pol_overview.specs.Entries.{NamedEntry, all_named, cut_of, entries_text}
@@ -13,12 +12,12 @@ use Rattle.pol_policy.specs.Deciding.{verdict_of}
 use Rattle.pol_policy.specs.declared.verdict.Verdict.{Verdict}
 use Rattle.pol_policy.specs.declared.verdict.Verdict.TheVariants.{Allowed, Denied}
 use Rattle.pol_record.specs.Texts.{fault_text}
-use Rattle.pol_replay.specs.Meanings.{LineMeaning, meaning_from}
+use Rattle.pol_replay.specs.Meanings.{meaning_from}
 use Rattle.pol_rights.specs.Rules.{PlainPlantPolicy}
 use Rattle.pol_ledger.specs.Items.{PlainAsked}
 use Rattle.pol_ledger.specs.Work.{BegunLedger}
 use Rattle.pol_operate.specs.Saying.{text_met}
-use Rattle.pol_operate.specs.Texts.{history_in, so_far_in}
+use Rattle.pol_operate.specs.Texts.{begun_text, history_in, so_far_in, sum_text}
 use Rattle.question_lines.specs.Front.{is_question}
 use Rattle.question_lines.specs.Questions.{PlainQuestion, bindings, entries, plant, question_of, would}
 
@@ -47,11 +46,13 @@ abbrev pub entries_in : Option BegunLedger → List NamedEntry
 entries_in ledger =
     all_named (map (λ (one : PlainAsked). one.by) (so_far_in ledger)) (reverse (history_in ledger))
 
--- what is told to a question under a policy, by the ledger as it is: what an event would be answered, what stands in the
--- plant and what a person may command there, how recipes could be bound, and entries
+-- what is told to a question under a policy, by the ledger as it is: what an event would be answered, what stands in
+-- the plant and in its file's header and last sum, with what a person may command there, how recipes could be bound,
+-- and entries
 abbrev pub told : PlainPlantPolicy → Option BegunLedger → PlainQuestion → List ℕ
 told policy ledger (would read) = would_text (text_met (Some policy) ledger (meaning_from read))
-told policy ledger (plant person) = plant_text (allows_by policy person) (history_in ledger)
+told policy ledger (plant person) =
+    plant_text (allows_by policy person) (history_in ledger) (begun_text ledger) (sum_text ledger)
 told policy ledger bindings = bindings_text (history_in ledger)
 told policy ledger (entries from most) = entries_text (cut_of from most (entries_in ledger))
 

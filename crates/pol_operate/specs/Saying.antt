@@ -1,5 +1,5 @@
 -- What comes of what a line behind the policy says.
-use Rattle.std.specs.Prelude.{ℕ, List, [], Option, Some, None}
+use Rattle.std.specs.Prelude.{ℕ, List, [], Option}
 use Rattle.named_lines.specs.Named.{PlainNamed}
 use Rattle.pol_guard.specs.Denials.{denial_text}
 use Rattle.pol_events.specs.Events.{PlainEvent}

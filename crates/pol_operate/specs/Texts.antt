@@ -2,7 +2,9 @@
 use Rattle.std.specs.Prelude.{ℕ, List, [], ◌∷◌, length, true, codes, Option, Some, None}
 use Rattle.std.specs.Option.{unwrap_or}
 use Rattle.hex.specs.Hex.{encode_lower}
-use Rattle.serde_json.specs.Data.{Data, boolean, number, unsigned, string, object, member, no_members}
+use Rattle.json.specs.Token as token
+use Rattle.json.specs.Token.{Token}
+use Rattle.serde_json.specs.Data.{Data, boolean, number, unsigned, string, object, Members, member, no_members}
 use Rattle.mtp_codes.specs.declared.value.Setting.{Setting}
 use Rattle.chart_core.specs.declared.entry.LogEntry.TheVariants.{Start}
 use Rattle.chart_json.specs.Written.{written_settings}
@@ -10,8 +12,11 @@ use Rattle.pol_core.specs.Calls.{settings_of}
 use Rattle.pol_events.specs.Events.{PlainEvent, advance}
 use Rattle.pol_events.specs.declared.answer.Answer.{Answer}
 use Rattle.pol_events.specs.declared.answer.Answer.TheVariants.{Did}
+use Rattle.pol_events.specs.declared.answer.Rule.{Rule}
 use Rattle.pol_history.specs.Looking.{History}
+use Rattle.pol_record.specs.Objects.{data_tokens}
 use Rattle.pol_record.specs.Texts.{answer_data, entry_data, line_text}
+use Rattle.pol_overview.specs.Near.{near_limits, rules_data}
 use Rattle.pol_ledger.specs.Items.{PlainAsked, sum_of}
 use Rattle.pol_ledger.specs.Work.{BegunLedger, history_of, items_of}
 
@@ -56,14 +61,31 @@ history_in ledger = history_of (so_far_in ledger)
 abbrev pub sum_text : Option BegunLedger → List ℕ
 sum_text ledger = encode_lower (sum_of (items_of ledger))
 
--- so many events are kept, and the last record has this sum
-unfoldable pub kept_object : ℕ → List ℕ → Data
-kept_object count sum =
-    object (member (codes "kept") (number (unsigned count)) (member (codes "sum") (string sum) no_members))
+-- what the header says; nothing where there is none
+abbrev pub begun_text : Option BegunLedger → List ℕ
+begun_text None = []
+begun_text (Some ledger) = ledger.build
+
+-- members, and the rules whose limits are near in front of them, where there are such
+abbrev pub near_member : List Rule → Members → Members
+near_member [] others = others
+near_member (first ∷ rules) others = member (codes "near") (rules_data (first ∷ rules)) others
+
+-- the tokens of these rules, where there are such
+abbrev pub near_tokens : List Rule → List Token
+near_tokens [] = []
+near_tokens (first ∷ rules) = token.key (codes "near") ∷ data_tokens (rules_data (first ∷ rules))
+
+-- so many events are kept, the limits of these rules are near, and the last record has this sum
+unfoldable pub kept_object : ℕ → List Rule → List ℕ → Data
+kept_object count near sum =
+    object (member (codes "kept") (number (unsigned count))
+    (near_member near (member (codes "sum") (string sum) no_members)))
 
 -- the line that answers the policy
 abbrev pub kept_text : Option BegunLedger → List ℕ
-kept_text ledger = line_text (kept_object (length (so_far_in ledger)) (sum_text ledger))
+kept_text ledger =
+    line_text (kept_object (length (so_far_in ledger)) (near_limits (history_in ledger)) (sum_text ledger))
 
 -- the end, where the last record has this sum
 unfoldable pub end_object : List ℕ → Data

@@ -15,11 +15,11 @@ ghost use Rattle.question_lines.specs.Questions.{plain_question};
 ghost use Rattle.pol_operate.specs.Lines.{admitted, asked_by};
 ghost use Rattle.pol_operate.specs.Questions.{allows_by, asks, entries_in, told, told_to, would_text};
 ghost use Rattle.pol_operate.specs.Saying.{foreseen_text, text_after, text_met};
-ghost use Rattle.pol_operate.specs.Texts.{history_in};
+ghost use Rattle.pol_operate.specs.Texts.{begun_text, history_in, sum_text};
 
 use crate::allowed::AllowedTo;
 use crate::asking::{advanced_by, settings_told};
-use crate::telling::put_told_line;
+use crate::telling::{begun_text, put_told_line, sum_text};
 use crate::verdicts::verdict_on;
 use event_json::{LineFault, LineRefusal};
 use mtp_codes::Name;
@@ -31,7 +31,7 @@ use pol_foresight::would_answer;
 use pol_guard::put_denial_line;
 use pol_jobs::InputLine;
 use pol_ledger::Ledger;
-use pol_overview::{put_entries_line, put_plant_line};
+use pol_overview::{FileWords, put_entries_line, put_plant_line};
 use pol_policy::Verdict;
 use pol_record::put_fault_line;
 use pol_rights::PlantPolicy;
@@ -123,7 +123,8 @@ fn put_bindings(alloc: Global, out: &mut Vec<u8>, ledger: &Ledger) -> Result<(),
     put_bindings_line(alloc, out, &Plant::new(alloc))
 }
 
-// Puts what stands in the plant, and what a person may command there, behind what a buffer holds.
+// Puts what stands in the plant and in its file's header and last sum, and what a person may command there, behind what
+// a buffer holds.
 #[tactic(auto, using(crate::proofs::Histories::entries_begun, crate::proofs::Histories::entries_none))]
 fn put_plant(
     alloc: Global,
@@ -133,13 +134,19 @@ fn put_plant(
     person: Option<Name>,
 ) -> Result<(), AllocError>
     ensures { OnOk result (out.new.items ≡ out.old.items ++ plant_text
-        (allows_by (plain_plant_policy policy.now) person) (history_in (ledger_state ledger.now))) }
+        (allows_by (plain_plant_policy policy.now) person) (history_in (ledger_state ledger.now))
+        (begun_text (ledger_state ledger.now)) (sum_text (ledger_state ledger.now))) }
 {
     let allowed = AllowedTo { policy, person };
+    let sum = sum_text(alloc, ledger)?;
+    let file = FileWords {
+        begun: begun_text(ledger),
+        sum: sum.as_str(),
+    };
     if ledger.is_begun() {
-        return put_plant_line(alloc, out, ledger.plant(), &allowed);
+        return put_plant_line(alloc, out, ledger.plant(), &allowed, &file);
     }
-    put_plant_line(alloc, out, &Plant::new(alloc), &allowed)
+    put_plant_line(alloc, out, &Plant::new(alloc), &allowed, &file)
 }
 
 // Puts the entries from a place on, at most so many, with who asked for each, behind what a buffer holds.

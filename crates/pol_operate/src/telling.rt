@@ -5,15 +5,18 @@ ghost use Rattle.chart_json.specs.Written.{written_setting, written_settings};
 ghost use Rattle.pol_record.specs.Objects.{data_tokens};
 ghost use Rattle.pol_record.specs.Texts.{entry_data};
 ghost use Rattle.pol_ledger.specs.Ledgers.{ledger_state};
-ghost use Rattle.pol_operate.specs.Texts.{did_object, end_object, kept_object, kept_text, sealed_text, sum_text};
-ghost use Rattle.pol_operate.specs.Texts.{told_text};
+ghost use Rattle.pol_overview.specs.Near.{near_limits};
+ghost use Rattle.pol_operate.specs.Texts.{begun_text, did_object, end_object, history_in, kept_object, kept_text};
+ghost use Rattle.pol_operate.specs.Texts.{near_tokens, sealed_text, sum_text, told_text};
 
 use crate::history::history_in;
 use chart_core::LogEntry;
 use json::Writer;
 use mtp_codes::Setting;
-use pol_events::Answer;
+use pol_core::Plant;
+use pol_events::{Answer, Rule};
 use pol_ledger::Ledger;
+use pol_overview::{near_limits, write_rules};
 use pol_record::{ended_line, put_answer_line, write_entry, write_scalar, write_text};
 use std::alloc::{AllocError, Global};
 use std::mem;
@@ -88,8 +91,22 @@ pub fn put_told_line(
 
 // ---- the file is open, and the end
 
-// The sum of a ledger's last record, in hex; empty where there is none.
-fn sum_text(alloc: Global, ledger: &Ledger) -> Result<String, AllocError>
+/// What a ledger's header says; empty where there is none.
+#[tactic(auto, using(crate::proofs::Printable::begun_printable))]
+pub fn begun_text(ledger: &Ledger) -> &str
+    ensures { result.now ≡ begun_text (ledger_state ledger.now) }
+{
+    match ledger.build() {
+        Some(build) => match std::str::from_utf8(build.as_bytes()) {
+            Ok(text) => text,
+            Err(_) => "",
+        },
+        None => "",
+    }
+}
+
+/// The sum of a ledger's last record, in hex; empty where there is none.
+pub fn sum_text(alloc: Global, ledger: &Ledger) -> Result<String, AllocError>
     ensures { IfOk result (λ text. string_bytes text ≡ sum_text (ledger_state ledger.now)) }
 {
     match ledger.sum() {
@@ -98,28 +115,55 @@ fn sum_text(alloc: Global, ledger: &Ledger) -> Result<String, AllocError>
     }
 }
 
+// The rules of a ledger's plant whose limits are near.
+#[tactic(auto, using(crate::proofs::Histories::entries_begun, crate::proofs::Histories::entries_none))]
+fn near_in(alloc: Global, ledger: &Ledger) -> Result<Vec<Rule>, AllocError>
+    ensures { IfOk result (λ rules. rules.items ≡ near_limits (history_in (ledger_state ledger.now))) }
+{
+    if ledger.is_begun() {
+        return near_limits(alloc, ledger.plant());
+    }
+    near_limits(alloc, &Plant::new(alloc))
+}
+
+// Writes the rules whose limits are near under their key, where there are such.
+fn write_near(writer: &mut Writer, near: &[Rule]) -> Result<(), AllocError>
+    ensures tokens { OnOk result (writer.new.tokens ≡ writer.old.tokens ++ near_tokens near.now) }
+    ensures before { writer.new.before ≡ writer.old.before }
+{
+    if near.is_empty() {
+        return Ok(());
+    }
+    writer.key("near")?;
+    write_rules(writer, near)
+}
+
 #[tactic(auto, using(crate::proofs::Tokens::kept_tokens))]
-fn write_kept(writer: &mut Writer, count: u64, sum: &str) -> Result<(), AllocError>
+fn write_kept(writer: &mut Writer, count: u64, near: &[Rule], sum: &str) -> Result<(), AllocError>
     ensures tokens { OnOk result (writer.new.tokens
-        ≡ writer.old.tokens ++ data_tokens (kept_object count sum.now)) }
+        ≡ writer.old.tokens ++ data_tokens (kept_object count near.now sum.now)) }
     ensures before { writer.new.before ≡ writer.old.before }
 {
     writer.begin_object()?;
     writer.key("kept")?;
     writer.u64(count)?;
+    write_near(writer, near)?;
     write_text(writer, "sum", sum)?;
     writer.end_object()
 }
 
-/// Puts the line that answers the policy behind what a buffer holds: how many events the ledger has, and the sum of its
-/// last record. Where there is no memory, what the buffer held is lost.
+/// Puts the line that answers the policy behind what a buffer holds: how many events the ledger has, the limits of its
+/// plant that are near, where there are such, and the sum of its last record. Where there is no memory, what the buffer
+/// held is lost.
 #[tactic(auto, using(pol_record::proofs::Tokens::line_of_tokens))]
 pub fn put_kept_line(alloc: Global, out: &mut Vec<u8>, ledger: &Ledger) -> Result<(), AllocError>
     ensures { OnOk result (out.new.items ≡ out.old.items ++ kept_text (ledger_state ledger.now)) }
 {
+    let near = near_in(alloc, ledger)?;
     let sum = sum_text(alloc, ledger)?;
+    let count = history_in(ledger).len() as u64;
     let mut writer = Writer::new(mem::replace(out, Vec::new(alloc)));
-    write_kept(&mut writer, history_in(ledger).len() as u64, sum.as_str())?;
+    write_kept(&mut writer, count, &near, sum.as_str())?;
     *out = ended_line(writer)?;
     Ok(())
 }

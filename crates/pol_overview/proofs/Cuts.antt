@@ -1,9 +1,8 @@
 -- Parts of lists.
-use Rattle.std.proofs.Common.{◌≡◌, ◌≤◌, ◌+◌, ◌-◌, ℕ, zero, suc, Bool, false, List, [], ◌∷◌, ◌++◌, arith, codes, drop, length, map, take}
-use Rattle.std.proofs.Common.{append_assoc, refl, sym, ap, ◌∙◌}
+use Rattle.std.proofs.Common.{◌≡◌, ◌≤◌, ◌-◌, ℕ, zero, suc, false, List, [], ◌∷◌, ◌++◌, arith, codes, drop, length, map, take}
+use Rattle.std.proofs.Common.{append_assoc, refl, ap, ◌∙◌}
 use Rattle.std.specs.Prelude.{Option, nat_lt}
 use Rattle.std.specs.Option.{unwrap_or}
-use Rattle.std.proofs.lemmas.List.{length-map}
 use Rattle.serde_json.proofs.OnLiterals.{serde_json_on_literals}
 use Rattle.serde_json.specs.View.{items_of}
 use Rattle.serde_json.specs.Written.{items_text}

@@ -2,7 +2,7 @@
 use Rattle.std.proofs.Common.{◌≡◌, ◌≢◌, ℕ, List, [], ◌∷◌, ◌++◌, Option, Some, None, refl, sym, ap, ◌∙◌}
 use Rattle.json.specs.Token as token
 use Rattle.json.specs.Token.{Token}
-use Rattle.serde_json.specs.Data.{Data, null}
+use Rattle.serde_json.specs.Data.{null}
 use Rattle.mtp_desc.specs.Plain.{PlainDescription}
 use Rattle.pol_history.specs.Batches.{Started, start_of}
 use Rattle.pol_history.specs.Looking.{History}
@@ -43,27 +43,28 @@ told_there old allows history tag description isnt is =
 -- a batch that was started is told as it stands
 pub told_batch : (old : List Token) (history : History) (batch : List ℕ) (started : Started) (standing : Standing)
     → Some started ≡ start_of history batch → Some standing ≡ standing_of history batch
-    → old ++ data_tokens (course_data batch started standing.outcome standing.hold standing.is_stopping)
+    → old ++ data_tokens (course_data history batch started standing.outcome standing.hold standing.is_stopping)
     ≡ old ++ data_tokens (batch_data history batch)
 told_batch old history batch started standing start stands =
-    ap (λ found. old ++ data_tokens (standing_data batch found (Some standing))) start
-    ∙ ap (λ found. old ++ data_tokens (standing_data batch (start_of history batch) found)) stands
+    ap (λ found. old ++ data_tokens (standing_data history batch found (Some standing))) start
+    ∙ ap (λ found. old ++ data_tokens (standing_data history batch (start_of history batch) found)) stands
 
 -- one that wasn't isn't told
 pub told_unstarted : (old : List Token) (history : History) (batch : List ℕ) → None ≡ start_of history batch
     → old ++ token.null ∷ [] ≡ old ++ data_tokens (batch_data history batch)
 told_unstarted old history batch none =
-    ap (λ found. old ++ data_tokens (standing_data batch found (standing_of history batch))) none
+    ap (λ found. old ++ data_tokens (standing_data history batch found (standing_of history batch))) none
 
 -- nor one that doesn't stand
-unstanding : (batch : List ℕ) (started : Option Started) → null ≡ standing_data batch started None
-unstanding batch None = refl
-unstanding batch (Some started) = refl
+unstanding : (history : History) (batch : List ℕ) (started : Option Started) →
+    null ≡ standing_data history batch started None
+unstanding history batch None = refl
+unstanding history batch (Some started) = refl
 
 -- the same of the tokens
 pub told_unstanding : (old : List Token) (history : History) (batch : List ℕ) → None ≡ standing_of history batch
     → old ++ token.null ∷ [] ≡ old ++ data_tokens (batch_data history batch)
 told_unstanding old history batch none =
     ap (λ told. old ++ data_tokens told)
-    (unstanding batch (start_of history batch)
-    ∙ ap (standing_data batch (start_of history batch)) none)
+    (unstanding history batch (start_of history batch)
+    ∙ ap (standing_data history batch (start_of history batch)) none)

@@ -1,12 +1,12 @@
 -- How many names a plant tells: never more than its history has entries.
 use Rattle.std.proofs.Common.{◌≡◌, ◌≤◌, ℕ, Bool, true, false, List, [], ◌∷◌, length, refl, sym, ap, ◌∙◌, arith}
-use Rattle.std.specs.Prelude.{Option, None, filter, filter_map, if◌then◌else◌, nat_le, reverse}
+use Rattle.std.specs.Prelude.{Option, None, filter, filter_map, if◌then◌else◌, nat_le}
 use Rattle.std.proofs.lemmas.Bool.{leb-false}
 use Rattle.std.proofs.lemmas.List.{length-reverse}
 use Rattle.mtp_codes.specs.declared.limits.TheConstants.{LONGEST_HISTORY}
 use Rattle.mtp_codes.proofs.Lists.{length_filter_map}
 use Rattle.pol_events.specs.Events.{PlainEntry}
-use Rattle.pol_history.specs.Answers.{answer_of, is_full}
+use Rattle.pol_history.specs.Answers.{answer_of}
 use Rattle.pol_history.specs.Batches.{batches, is_open, started_batch, watchers_of, watches}
 use Rattle.pol_history.specs.Looking.{History, is_accepted, is_accepted_recipe, recipes}
 use Rattle.pol_history.specs.Runs.{IsLegal, is_recorded}

@@ -1,7 +1,7 @@
 -- What is told of names, one place after the other.
 use Rattle.std.proofs.Common.{◌≡◌, ◌+◌, ℕ, zero, suc, Some, None, List, [], ◌∷◌, ◌++◌, drop, map, refl, sym, ◌∙◌, ap}
 use Rattle.std.proofs.Common.{append_assoc, add-one}
-use Rattle.std.specs.Prelude.{slice_get}
+use Rattle.std.specs.Prelude.{slice_get, Option, filter_map}
 use Rattle.json.specs.Token.{Token}
 use Rattle.json.specs.Tree.{items_tokens}
 use Rattle.serde_json.specs.Data.{Data}
@@ -46,3 +46,9 @@ pub all_told : (told : List ℕ → Data) (names : List (List ℕ)) (place : ℕ
 all_told told names place before after total last none ends all wrote =
     wrote ∙ ap (λ rest. before ++ rest) (sym ends)
     ∙ ap (λ left. before ++ rest_tokens told left) (sym (cut_end names place none)) ∙ all
+
+-- ---- some items of a list alone
+
+-- the tokens of what is told of the last items of a list of which something is told, and its bracket
+abbrev pub some_tokens : {A : Type 0} → (A → Option Data) → List A → List Token
+some_tokens told left = items_tokens (items_outline (items_of (filter_map told left)))

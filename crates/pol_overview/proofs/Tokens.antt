@@ -1,14 +1,15 @@
 -- Tokens of what is told of a plant.
-use Rattle.std.proofs.Common.{◌≡◌, ℕ, Bool, List, [], ◌∷◌, ◌++◌, append_assoc, codes, refl}
+use Rattle.std.proofs.Common.{◌≡◌, ◌∙◌, ℕ, Bool, List, [], ◌∷◌, ◌++◌, ap, append_assoc, codes, refl}
 use Rattle.json.specs.Token as token
 use Rattle.json.specs.Token.{Token}
 use Rattle.serde_json.specs.Data.{Data}
 use Rattle.event_json.specs.Written.{whole}
 use Rattle.pol_record.specs.Objects.{data_tokens}
 use Rattle.pol_record.specs.Texts.{under_key}
-use Rattle.pol_overview.specs.Batches.{closed_object, open_object}
+use Rattle.pol_overview.specs.Batches.{back_tokens, closed_object, front_tokens, open_object}
 use Rattle.pol_overview.specs.Modules.{control_object, module_object, service_object, variable_object}
 use Rattle.pol_overview.specs.Overview.{plant_object}
+use Rattle.pol_overview.specs.Steps.{active_object, unheld_object, waiting_object}
 
 -- whatever stands before them, seven parts may be grouped from either end
 grouped : (old a b c d e f g : List Token) →
@@ -100,52 +101,152 @@ closed_tokens old batch held outcome recipe watched =
     (token.key (codes "recipe") ∷ token.string recipe ∷ []) (token.key (codes "watch") ∷ data_tokens watched)
     (token.end_object ∷ [])
 
--- so may eleven
-regrouped : (old a b c d e f g h i j k : List Token) →
-    ((((((((((old ++ a) ++ b) ++ c) ++ d) ++ e) ++ f) ++ g) ++ h) ++ i) ++ j) ++ k
-    ≡ old ++ (a ++ (b ++ (c ++ (d ++ (e ++ (f ++ (g ++ (h ++ (i ++ (j ++ k))))))))))
-regrouped old a b c d e f g h i j k = simp append_assoc refl
+-- those of an active step
+pub active_tokens : (old : List Token) (service step tag : List ℕ) (view : Data) →
+    ((((((old ++ token.begin_object ∷ [])
+    ++ token.key (codes "service") ∷ token.string service ∷ [])
+    ++ token.key (codes "step") ∷ token.string step ∷ [])
+    ++ token.key (codes "tag") ∷ token.string tag ∷ [])
+    ++ token.key (codes "view") ∷ [])
+    ++ data_tokens view)
+    ++ token.end_object
+    ∷ []
+    ≡ old ++ data_tokens (active_object service step tag view)
+unfolding active_object
+active_tokens old service step tag view = simp append_assoc refl
 
--- those of one that is open
-pub open_tokens : (old : List Token) (batch : List ℕ) (held hold : Data) (recipe : List ℕ) (stopping : Bool)
-    (watched : Data) →
-    ((((((((((old ++ token.begin_object ∷ [])
+-- those of a step that a hold doesn't reach
+pub unheld_tokens : (old : List Token) (by step tag : List ℕ) →
+    ((((old ++ token.begin_object ∷ [])
+    ++ token.key (codes "by") ∷ token.string by ∷ [])
+    ++ token.key (codes "step") ∷ token.string step ∷ [])
+    ++ token.key (codes "tag") ∷ token.string tag ∷ [])
+    ++ token.end_object
+    ∷ []
+    ≡ old ++ data_tokens (unheld_object by step tag)
+unfolding unheld_object
+unheld_tokens old by step tag = simp append_assoc refl
+
+-- those of an awaited node
+pub waiting_tokens : (old : List Token) (node : ℕ) (obstacle : Data) →
+    ((((old ++ token.begin_object ∷ [])
+    ++ token.key (codes "node") ∷ data_tokens (whole node))
+    ++ token.key (codes "obstacle") ∷ [])
+    ++ data_tokens obstacle)
+    ++ token.end_object
+    ∷ []
+    ≡ old ++ data_tokens (waiting_object node obstacle)
+unfolding waiting_object
+waiting_tokens old node obstacle = simp append_assoc refl
+
+-- so may four
+four : (old a b c d : List Token) → (((old ++ a) ++ b) ++ c) ++ d ≡ old ++ (a ++ (b ++ (c ++ d)))
+four old a b c d = simp append_assoc refl
+
+-- and eight
+eight : (old a b c d e f g h : List Token) →
+    (((((((old ++ a) ++ b) ++ c) ++ d) ++ e) ++ f) ++ g) ++ h
+    ≡ old ++ (a ++ (b ++ (c ++ (d ++ (e ++ (f ++ (g ++ h)))))))
+eight old a b c d e f g h = simp append_assoc refl
+
+-- and nine
+nine : (old a b c d e f g h i : List Token) →
+    ((((((((old ++ a) ++ b) ++ c) ++ d) ++ e) ++ f) ++ g) ++ h) ++ i
+    ≡ old ++ (a ++ (b ++ (c ++ (d ++ (e ++ (f ++ (g ++ (h ++ i))))))))
+nine old a b c d e f g h i = simp append_assoc refl
+
+-- what stands behind eight parts stands behind the last of them
+eight_before : (a b c d e f g h rest : List Token) →
+    (a ++ (b ++ (c ++ (d ++ (e ++ (f ++ (g ++ h))))))) ++ rest
+    ≡ a ++ (b ++ (c ++ (d ++ (e ++ (f ++ (g ++ (h ++ rest)))))))
+eight_before a b c d e f g h rest = simp append_assoc refl
+
+-- so it does behind nine
+nine_before : (a b c d e f g h i rest : List Token) →
+    (a ++ (b ++ (c ++ (d ++ (e ++ (f ++ (g ++ (h ++ i)))))))) ++ rest
+    ≡ a ++ (b ++ (c ++ (d ++ (e ++ (f ++ (g ++ (h ++ (i ++ rest))))))))
+nine_before a b c d e f g h i rest = simp append_assoc refl
+
+-- the first fields of a batch that is open, one behind the other
+pub front_grouped : (old : List Token) (active : Data) (batch : List ℕ) (held hold next : Data) →
+    (((((((old ++ token.key (codes "active") ∷ [])
+    ++ data_tokens active)
     ++ token.key (codes "batch") ∷ token.string batch ∷ [])
     ++ token.key (codes "bind") ∷ data_tokens held)
     ++ token.key (codes "hold") ∷ [])
     ++ data_tokens hold)
-    ++ token.key (codes "outcome") ∷ token.string (codes "Running") ∷ [])
+    ++ token.key (codes "next") ∷ [])
+    ++ data_tokens next
+    ≡ old ++ front_tokens active batch held hold next
+front_grouped old active batch held hold next =
+    eight old (token.key (codes "active") ∷ []) (data_tokens active)
+    (token.key (codes "batch") ∷ token.string batch ∷ []) (token.key (codes "bind") ∷ data_tokens held)
+    (token.key (codes "hold") ∷ []) (data_tokens hold) (token.key (codes "next") ∷ []) (data_tokens next)
+
+-- and its last ones
+pub back_grouped : (old : List Token) (recipe : List ℕ) (stopping : Bool) (unheld waits watched : Data) →
+    ((((((((old ++ token.key (codes "outcome") ∷ token.string (codes "Running") ∷ [])
     ++ token.key (codes "recipe") ∷ token.string recipe ∷ [])
     ++ token.key (codes "stopping") ∷ [])
     ++ token.boolean stopping ∷ [])
-    ++ token.key (codes "watch") ∷ data_tokens watched)
+    ++ token.key (codes "unheld") ∷ [])
+    ++ data_tokens unheld)
+    ++ token.key (codes "waits") ∷ [])
+    ++ data_tokens waits)
+    ++ token.key (codes "watch") ∷ data_tokens watched
+    ≡ old ++ back_tokens recipe stopping unheld waits watched
+back_grouped old recipe stopping unheld waits watched =
+    nine old (token.key (codes "outcome") ∷ token.string (codes "Running") ∷ [])
+    (token.key (codes "recipe") ∷ token.string recipe ∷ []) (token.key (codes "stopping") ∷ [])
+    (token.boolean stopping ∷ []) (token.key (codes "unheld") ∷ []) (data_tokens unheld)
+    (token.key (codes "waits") ∷ []) (data_tokens waits) (token.key (codes "watch") ∷ data_tokens watched)
+
+-- a bracket, these fields and a bracket behind other tokens are the tokens of a batch that is open
+pub open_tokens : (old : List Token) (active : Data) (batch : List ℕ) (held hold next : Data) (recipe : List ℕ)
+    (stopping : Bool) (unheld waits watched : Data) →
+    (((old ++ token.begin_object ∷ [])
+    ++ front_tokens active batch held hold next)
+    ++ back_tokens recipe stopping unheld waits watched)
     ++ token.end_object
     ∷ []
-    ≡ old ++ data_tokens (open_object batch held hold recipe stopping watched)
+    ≡ old ++ data_tokens (open_object active batch held hold next recipe stopping unheld waits watched)
 unfolding open_object
-open_tokens old batch held hold recipe stopping watched =
-    regrouped old (token.begin_object ∷ []) (token.key (codes "batch") ∷ token.string batch ∷ [])
-    (token.key (codes "bind") ∷ data_tokens held) (token.key (codes "hold") ∷ []) (data_tokens hold)
-    (token.key (codes "outcome") ∷ token.string (codes "Running") ∷ [])
+open_tokens old active batch held hold next recipe stopping unheld waits watched =
+    let front = front_tokens active batch held hold next in
+    let back = back_tokens recipe stopping unheld waits watched in
+    four old (token.begin_object ∷ []) front back (token.end_object ∷ [])
+    ∙ ap (λ tokens. old ++ (token.begin_object ∷ (front ++ tokens)))
+    (nine_before (token.key (codes "outcome") ∷ token.string (codes "Running") ∷ [])
     (token.key (codes "recipe") ∷ token.string recipe ∷ []) (token.key (codes "stopping") ∷ [])
-    (token.boolean stopping ∷ []) (token.key (codes "watch") ∷ data_tokens watched) (token.end_object ∷ [])
+    (token.boolean stopping ∷ []) (token.key (codes "unheld") ∷ []) (data_tokens unheld)
+    (token.key (codes "waits") ∷ []) (data_tokens waits) (token.key (codes "watch") ∷ data_tokens watched)
+    (token.end_object ∷ []))
+    ∙ ap (λ tokens. old ++ (token.begin_object ∷ tokens))
+    (eight_before (token.key (codes "active") ∷ []) (data_tokens active)
+    (token.key (codes "batch") ∷ token.string batch ∷ []) (token.key (codes "bind") ∷ data_tokens held)
+    (token.key (codes "hold") ∷ []) (data_tokens hold) (token.key (codes "next") ∷ []) (data_tokens next) _)
 
 -- those of a plant, under its key
-pub plant_tokens : (old : List Token) (batches : Data) (entries : ℕ) (modules recipes : Data) →
-    ((((((((((((old ++ token.begin_object ∷ [])
+pub plant_tokens : (old : List Token) (batches : Data) (begun : List ℕ) (entries : ℕ) (modules near recipes : Data)
+    (sum : List ℕ) →
+    ((((((((((((((((old ++ token.begin_object ∷ [])
     ++ token.key (codes "plant") ∷ [])
     ++ token.begin_object ∷ [])
     ++ token.key (codes "batches") ∷ [])
     ++ data_tokens batches)
+    ++ token.key (codes "begun") ∷ token.string begun ∷ [])
     ++ token.key (codes "entries") ∷ [])
     ++ data_tokens (whole entries))
     ++ token.key (codes "modules") ∷ [])
     ++ data_tokens modules)
+    ++ token.key (codes "near") ∷ [])
+    ++ data_tokens near)
     ++ token.key (codes "recipes") ∷ [])
     ++ data_tokens recipes)
+    ++ token.key (codes "sum") ∷ token.string sum ∷ [])
     ++ token.end_object ∷ [])
     ++ token.end_object
     ∷ []
-    ≡ old ++ data_tokens (under_key (codes "plant") (plant_object batches entries modules recipes))
+    ≡ old ++ data_tokens (under_key (codes "plant") (plant_object batches begun entries modules near recipes sum))
 unfolding under_key plant_object
-plant_tokens old batches entries modules recipes = simp append_assoc refl
+plant_tokens old batches begun entries modules near recipes sum = simp append_assoc refl

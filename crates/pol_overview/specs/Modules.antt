@@ -12,7 +12,7 @@ use Rattle.chart_cursor.specs.declared.sight.Sight.TheVariants.{Away, Unreported
 use Rattle.event_json.specs.Written.{mode_word, origin_word, whole}
 use Rattle.pol_history.specs.Batches.{holder_of, watchers_of}
 use Rattle.pol_history.specs.Looking.{History, past}
-use Rattle.pol_history.specs.Modules.{Docking, absent, docked, away, description_of, docking_of, present_tags, ticket_of}
+use Rattle.pol_history.specs.Modules.{Docking, absent, description_of, docking_of, present_tags, ticket_of}
 use Rattle.pol_history.specs.Modules.{value_by, view_of}
 use Rattle.pol_table.specs.ByteOrder.{in_byte_order}
 use Rattle.pol_core.specs.Calls.{module_sight, module_value}

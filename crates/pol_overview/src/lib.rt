@@ -1,10 +1,12 @@
 //! What stands in a plant, as it is told who operates it.
 //!
 //! `put_entries_line` writes a part of its history (`specs/Entries.antt`), each entry with who asked for its event.
-//! `put_plant_line` writes its batches, its modules with what each service reported last and which commands would go
-//! out to it now, and the names of its recipes, straight from the plant's tables. Each field is what looking back over
-//! the history finds (`specs/Overview.antt`, `specs/Modules.antt`, `specs/Batches.antt`, `specs/May.antt`). Who may send
-//! which commands the crate asks an `Allowing`; it knows nothing of policies, files and questions.
+//! `put_plant_line` writes its batches, of the open ones what each step does and what each waits for, its modules with
+//! what each service reported last and which commands would go out to it now, the names of its recipes, and the limits
+//! that are near, straight from the plant's tables. Each field is what looking back over the history finds
+//! (`specs/Overview.antt`, `specs/Modules.antt`, `specs/Batches.antt`, `specs/Steps.antt`, `specs/May.antt`,
+//! `specs/Near.antt`). Who may send which commands the crate asks an `Allowing`, and what the plant's file says of
+//! itself it is told; it knows nothing of policies, files and questions.
 //!
 //! Tried in `operate_examples`.
 #![tactic(auto)]
@@ -15,10 +17,13 @@ mod entries;
 mod lists;
 mod may;
 mod modules;
+mod near;
 mod overview;
 mod services;
+mod steps;
 mod values;
 
 pub use allowing::Allowing;
 pub use entries::{MOST_TOLD, put_entries_line};
-pub use overview::put_plant_line;
+pub use near::{near_limits, write_rules};
+pub use overview::{FileWords, put_plant_line};

@@ -20,8 +20,8 @@ use pol_core::Plant;
 use pol_record::write_text;
 use std::alloc::AllocError;
 
-// Writes a whole number under a key.
-fn write_number(writer: &mut Writer, key: &str, number: u32) -> Result<(), AllocError>
+/// Writes a whole number under a key.
+pub fn write_number(writer: &mut Writer, key: &str, number: u32) -> Result<(), AllocError>
     ensures tokens { OnOk result (writer.new.tokens
         ≡ writer.old.tokens ++ token.key key.now ∷ data_tokens (whole number)) }
     ensures before { writer.new.before ≡ writer.old.before }
@@ -43,7 +43,8 @@ fn write_control(writer: &mut Writer, control: &ServiceControl) -> Result<(), Al
     writer.end_object()
 }
 
-fn write_sight(writer: &mut Writer, sight: &Sight) -> Result<(), AllocError>
+/// Writes what is seen of a service: what it reported last, or null.
+pub fn write_sight(writer: &mut Writer, sight: &Sight) -> Result<(), AllocError>
     ensures tokens { OnOk result (writer.new.tokens ≡ writer.old.tokens ++ data_tokens (sight_data sight.now)) }
     ensures before { writer.new.before ≡ writer.old.before }
 {

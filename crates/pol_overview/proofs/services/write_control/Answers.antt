@@ -1,5 +1,5 @@
 -- The tokens of each part stand behind those before it.
-use Rattle.std.proofs.Common.{◌++◌, ◌∷◌, [], ◌∙◌, ap, codes, refl, sym}
+use Rattle.std.proofs.Common.{◌++◌, ◌∷◌, [], ◌∙◌, ap, codes, refl}
 use Rattle.std.proofs.lemmas.Result.{on_ok_weaker}
 use Rattle.json.specs.Token as token
 use Rattle.pol_record.specs.Objects.{data_tokens}
