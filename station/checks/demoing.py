@@ -103,8 +103,8 @@ class Many(unittest.TestCase):
         live = plant.live()
         late = statistics.quantiles(seconds, n=100)[-1]
         per_second = (live.told["entries"] - count) / (60 * reading.MINUTES)
-        print(f"{MANY} modules, {len(seconds)} answers: half within {statistics.median(seconds) * 1000:.0f} ms, 99 of 100 "
-              f"within {late * 1000:.0f} ms; {per_second:.0f} entries a second, load {os.getloadavg()[0]:.1f} "
+        print(f"{MANY} modules, {len(seconds)} answers: half within {statistics.median(seconds) * 1000:.0f} ms, "
+              f"99 of 100 within {late * 1000:.0f} ms; {per_second:.0f} entries a second, load {os.getloadavg()[0]:.1f} "
               f"on {os.cpu_count()} processors")
         self.assertEqual(live.alarms(), {})
         self.assertLess(late, MOST_SECONDS)

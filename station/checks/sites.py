@@ -16,13 +16,15 @@ from checks.broker import PATIENCE, free_port
 from checks.plants import Site
 from checks.reading import STATION
 from operating import pol
+from operating.alarms import Alarms
 from operating.notes import Notes
 from operating.past import Past, number_in, tests
+from operating.plant import Plant
 from operating.pol import Ended, Pol
 from operating.shown import Shown, is_still, obstacles_of
 from operating.site import Unusable, people_of, read_site
 from operating.standing import Standing, nodes
-from operating.station import plain
+from operating.station import Station, plain
 
 DONE = {"done": True}
 OPEN = {"groups": [], "rules": []}
@@ -224,6 +226,18 @@ class Small(unittest.TestCase):
         rows[0]["obstacle"] = third
         again = shown.obstacles("b", rows, {"wait": third, "since": 9})
         self.assertEqual([each["since"] for each in again], [9, first[1]["since"]])
+
+    def test_limits_that_are_near(self):
+        """As the program tells them, or, of an older one, by its entries."""
+        for state, wanted in (({"near": ["BatchesFull", "RecipesFull"]}, ["near_batches", "near_recipes"]),
+                              ({"near": []}, []), ({"entries": 180_001}, ["near_history"]), ({"entries": 1000}, [])):
+            alarms, plant = Alarms(lambda: None), types.SimpleNamespace(state=lambda: state)
+            station = types.SimpleNamespace(alarms=alarms, plant=types.SimpleNamespace(near=lambda: Plant.near(plant)))
+            alarms.set(("near", None, "HistoryFull"), "near_history")
+            Station.tell_near(station)
+            self.assertEqual([each["code"] for each in alarms.shown()], wanted)
+            self.assertEqual([each["deeds"] for each in alarms.shown() if each["code"] == "near_recipes"],
+                             [[]] * ("near_recipes" in wanted))
 
     def test_a_recipes_settings_where_an_entry_does_not_say_them(self):
         step = {"step": "s1", "role": "A", "service": "dose", "procedure": 1, "settings": [{"name": "amount", "value": 5}]}

@@ -28,7 +28,8 @@ class Lines(unittest.TestCase):
 
     def line(self, span, name=LEVEL):
         """The places of a line: each with its number, the least, the greatest and the last in it."""
-        found = [each for each in self.trends.shown(span, [TAG])["lines"] if each["name"] == name]
+        lines = self.trends.spans[span].shown([TAG], self.at)["lines"]
+        found = [each for each in lines if each["name"] == name]
         return found[0]["places"] if found else None
 
     def test_a_place_has_the_least_the_greatest_and_the_last(self):
@@ -44,7 +45,9 @@ class Lines(unittest.TestCase):
         self.show(50, (PLACES + 2) * RECENT_LASTS)
         self.assertEqual([each[0] for each in self.line(RECENT)], [1, 2, PLACES + 2])
         shown = self.trends.shown(RECENT, [TAG])
-        self.assertEqual(shown["to"] - shown["from"], PLACES * RECENT_LASTS)
+        self.assertEqual((shown["to"] - shown["from"], shown["lasts"]), (PLACES * RECENT_LASTS, RECENT_LASTS))
+        self.at = BEGIN + PLACES * RECENT_LASTS
+        self.assertEqual(self.trends.shown(RECENT, [TAG])["from"], BEGIN)
 
     def test_of_the_whole_time_nothing_is_lost_that_was_least_or_greatest(self):
         count = 40 * PLACES
@@ -57,6 +60,13 @@ class Lines(unittest.TestCase):
         lasts = self.trends.shown(WHOLE, [TAG])["lasts"]
         self.assertEqual(next(each[0] for each in line if each[2] == 9_999), 777 * WHOLE_LASTS // lasts)
         self.assertEqual(line[-1][3], (count - 1) % 7)
+
+    def test_what_comes_when_places_are_made_longer_is_kept(self):
+        self.show(1, 0)
+        for value, place in ((2, PLACES), (3, 8 * PLACES)):
+            self.show(value, place * WHOLE_LASTS)
+            self.assertEqual(self.line(WHOLE)[-1][1:], [value] * 3)
+        self.assertEqual(self.line(WHOLE)[0], [0, 1, 1, 1])
 
     def test_a_module_that_is_gone_is_unknown_until_it_is_back(self):
         self.show(5, 0)

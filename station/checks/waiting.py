@@ -1,4 +1,6 @@
 """Batches, values and states that last, each by itself: what is held back, what is told how often, what is late."""
+import json
+import queue
 import signal
 import threading
 import time
@@ -12,6 +14,7 @@ from checks.broker import PATIENCE
 from checks.stand_ins import KEY, TAG, Parts, fields
 from operating import values
 from operating.late import Late
+from operating.server import Pages
 from operating.values import Values
 
 SOON = 0.05
@@ -150,6 +153,54 @@ class Hurried(unittest.TestCase):
         self.assertEqual(made, ["person", 0, 1, 2])
         threading.Timer(SOON, turns.hurry, [lambda: made.append("another")]).start()
         self.assertTrue(turns.until(lambda: "another" in made, PATIENCE))
+
+
+class Drawn(unittest.TestCase):
+    """The page is drawn part by part, each in a turn of its own."""
+
+    def setUp(self):
+        self.turns, self.made, self.state = Turns(), [], 0
+        self.pages = Pages(self.turns, ("127.0.0.1", 0))
+        self.pages.serve(self.draw, None, {})
+        self.addCleanup(self.pages.close)
+
+    def draw(self, by):
+        """Three parts, and then the state at their beginning."""
+        state = self.state
+        for part in range(3):
+            self.made.append(part)
+            yield None
+        yield {"state": state}
+
+    def come(self):
+        reader = queue.Queue(1)
+        self.pages.come(reader, "dan")
+        return reader
+
+    def test_a_person_comes_between_the_parts(self):
+        reader = self.come()
+        self.turns.hurry(lambda: self.made.append("person"))
+        self.turns.run(SOON)
+        self.assertEqual((self.made, json.loads(reader.get_nowait())), ([0, "person", 1, 2], {"state": 0}))
+
+    def test_who_comes_is_shown_nothing_that_was_begun_before(self):
+        self.come()
+        self.state = 1
+        later = self.come()
+        self.assertTrue(self.turns.until(lambda: not later.empty(), PATIENCE))
+        self.assertEqual(json.loads(later.get_nowait()), {"state": 1})
+
+    def test_what_changed_meanwhile_is_drawn_once_more(self):
+        reader = self.come()
+        self.turns.run(SOON)
+        reader.get_nowait()
+        self.pages.changed()
+        self.assertTrue(self.turns.until(lambda: len(self.made) == 4, PATIENCE))
+        self.state = 2
+        for _ in range(5):
+            self.pages.changed()
+        self.assertTrue(self.turns.until(lambda: not reader.empty() and reader.queue[0] == '{"state": 2}', PATIENCE))
+        self.assertEqual(len(self.made), 9)
 
 
 class Signals(unittest.TestCase):

@@ -7,11 +7,13 @@ import time
 # Lines that are asked together have to fit into a pipe, with their answers.
 MOST_AT_ONCE, PAGE = 20, 1000
 # The program of a station that was killed still has the file for a moment.
-PATIENCE, PAUSE, IN_USE = 30.0, 0.2, 10
+PATIENCE, PAUSE, IN_USE = 30.0, 0.2, 13
 MOST_BEGINNINGS, LEAVE = 5, 20
 # Bytes: one run of the program takes 256 MiB of input; before that it is ended and begun anew.
 MOST_INPUT = 200_000_000
 NO_ENTRY = ("bad", "denied")
+# The status by which an older program says that another one has the file, as of a disk that fails.
+OLD_IN_USE = 10
 
 
 class Ended(Exception):
@@ -44,7 +46,7 @@ class Pol:
             if answer is not None:
                 return answer["kept"]
             status, text = self.process.wait(), self.process.stderr.read().decode(errors="replace").strip()
-            if status != IN_USE or time.monotonic() > end:
+            if status not in (IN_USE, OLD_IN_USE) or time.monotonic() > end:
                 raise Ended(f"pol ended with status {status}: {text or 'it said nothing'} (docs/JOBS.md has them all)")
             time.sleep(PAUSE)
 

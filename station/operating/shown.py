@@ -161,7 +161,8 @@ class Shown:
         or else as they are found by asking, since a module that is only read may be another batch's."""
         recipe = found["recipe"]
         roles = [{**role, "tags": self.tags_of(role["type"])} for role in self.plant.past.roles(recipe)]
-        tried = [found["bind"]] if "bind" in found else list(itertools.islice(assignments(roles), MOST_TRIED))
+        own = [{**found["bind"], **found.get("watch", {})}] if "bind" in found else []
+        tried = own or list(itertools.islice(assignments(roles), MOST_TRIED))
         whys = self.presses([self.deeds.start_event(batch, recipe, tags) for tags in tried], by)
         best = next((place for place, why in enumerate(whys) if why is None), 0)
         assigned = {role["role"]: tried[best][role["role"]] for role in roles} if tried else None

@@ -7,7 +7,7 @@ from operating.alarms import now
 
 # How many places a line has at most; how long one lasts, in milliseconds: of the last minutes each place, of the whole
 # time the first ones, since there two become one as often as it has to be.
-PLACES, RECENT_LASTS, WHOLE_LASTS = 120, 5_000, 500
+PLACES, RECENT_LASTS, WHOLE_LASTS = 240, 2_500, 250
 # The states from the calmest to the gravest: where several were in one place, the gravest is what shows.
 BY_GRAVITY = ("Idle", "Completed", "Resetting", "Starting", "Completing", "Resuming", "Unholding", "Execute", "Pausing",
               "Paused", "Holding", "Held", "Stopping", "Stopped", "Aborting", "Aborted")
@@ -31,10 +31,11 @@ class Lines:
 
     def put(self, key, at, value):
         """What was reported of one thing at a moment; None where nobody knows it any more."""
-        line, place = self.known.setdefault(key, {}), self.place(at)
+        place = self.place(at)
+        line = self.known.setdefault(key, {})
         line[place] = joined(line.get(place, UNKNOWN), (value, value, value))
-        if not self.grows:
-            self.forget(line, place - PLACES)
+        if len(line) > PLACES:
+            self.forget(line, place)
 
     def place(self, at):
         """The place of a moment. Where the lines grow they are made coarser, until it is one of the first."""
@@ -44,21 +45,23 @@ class Lines:
             self.known = {key: halved(line) for key, line in self.known.items()}
         return since // self.lasts
 
-    @staticmethod
-    def forget(line, least):
-        """Leaves out what was before a place, but for the last of it, which still held then."""
-        old = sorted(place for place in line if place < least)
-        for place in old[:-1]:
-            del line[place]
+    def forget(self, line, place):
+        """Of the last places leaves out what was before them, but for the last of it, which still held then."""
+        old = [] if self.grows else sorted(each for each in line if each < place - PLACES)
+        for each in old[:-1]:
+            del line[each]
 
     def drop(self, tag):
         self.known = {key: line for key, line in self.known.items() if key[0] != tag}
 
     def shown(self, tags, end):
         """The lines of some modules: each place with its number and what it has."""
-        self.place(end)
+        last = self.place(end)
+        asked = {key: line for key, line in self.known.items() if key[0] in tags}
+        for line in asked.values():
+            self.forget(line, last)
         lines = [{"tag": tag, "kind": kind, "name": name, "places": [[place, *line[place]] for place in sorted(line)]}
-                 for (tag, kind, name), line in self.known.items() if tag in tags]
+                 for (tag, kind, name), line in asked.items()]
         first = self.begin if self.grows else max(self.begin, end - PLACES * self.lasts)
         return {"begin": self.begin, "from": first, "to": end, "lasts": self.lasts, "lines": lines}
 
@@ -117,6 +120,9 @@ class Trends:
             lines.drop(tag)
 
     def shown(self, span, tags):
-        """The lines of some modules over a span, up to now. A state is told by its place among `states`."""
-        found = self.spans.get(span, self.spans[RECENT])
-        return {"states": [STATES[name] for name in BY_GRAVITY], **found.shown(set(tags), now())}
+        """The lines of some modules over a span, up to now. A state is told by its place among `states`. In the first
+        minutes the whole time has shorter places than the last minutes."""
+        end, recent = now(), self.spans[RECENT]
+        is_recent = span == RECENT and end - recent.begin > PLACES * RECENT_LASTS
+        found = recent if is_recent else self.spans[WHOLE]
+        return {"states": [STATES[name] for name in BY_GRAVITY], **found.shown(set(tags), end)}
