@@ -1,11 +1,12 @@
 -- The lines of an audit that tells which bytes it read.
-use Rattle.std.proofs.Common.{◌≡◌, ◌<◌, ◌∙◌, ℕ, List, [], ◌∷◌, ◌++◌, codes, length, refl, subst, arith, append_assoc}
+use Rattle.std.proofs.Common.{◌≡◌, ◌<◌, ◌∙◌, ℕ, List, [], ◌∷◌, ◌++◌, codes, length, refl, ap, subst, arith}
+use Rattle.std.proofs.Common.{append_assoc}
 use Rattle.std.proofs.Common.{length-append}
-use Rattle.std.specs.Prelude.{Ok, Option, None, Some, decimal}
+use Rattle.std.specs.Prelude.{Ok, Some, decimal}
 use Rattle.std.specs.declared.convert.Infallible.{Infallible}
 use Rattle.json.specs.Token as token
 use Rattle.json.specs.Token.{Token}
-use Rattle.pol_io.specs.Edge.{Edge}
+use Rattle.pol_io.specs.Scripted.{Scripted}
 use Rattle.pol_jobs.specs.Ends.{Ends, edge}
 use Rattle.pol_jobs.specs.LineWork.{Output}
 use Rattle.pol_record.specs.Objects.{data_tokens}
@@ -25,19 +26,17 @@ unfolding read_object
 read_tokens old count sum = simp append_assoc refl
 
 -- an audit in memory that is done has written the verdict's line
-pub verdict_written : (by : Output Infallible) → by ≡ audited → (bytes held : List ℕ) (left : Option (List ℕ))
-    (read read' wrote wrote' : ℕ) →
-    Ends {Failure = Infallible} by (edge (Some bytes) read) (edge left read') (edge (Some []) wrote)
-    (edge (Some held) wrote') (Ok tt) → held ≡ verdict_text (audit_of bytes)
-verdict_written by is bytes held left read read' wrote wrote' ends =
-    written left (subst (λ (output : Output Infallible). Ends {Failure = Infallible} output (edge (Some bytes) read)
-    (edge left read') (edge (Some []) wrote) (edge (Some held) wrote') (Ok tt)) is ends)
-  where
-    written : (left : Option (List ℕ)) →
-        Ends {Failure = Infallible} audited (edge (Some bytes) read) (edge left read') (edge (Some []) wrote)
-        (edge (Some held) wrote') (Ok tt) → held ≡ verdict_text (audit_of bytes)
-    written None ends = absurd ends.0
-    written (Some rest) ends = ends.0.written ∙ ends.0.may
+pub verdict_written : (by : Output Infallible) → by ≡ audited → (source source' sink sink' : Scripted)
+    (bytes : List ℕ) → source.bytes ≡ bytes → sink.bytes ≡ [] →
+    Ends {Failure = Infallible} by (edge (Some source.bytes) source.faults) (edge (Some source'.bytes) source'.faults)
+    (edge (Some sink.bytes) sink.faults) (edge (Some sink'.bytes) sink'.faults) (Ok tt) →
+    sink'.bytes ≡ verdict_text (audit_of bytes)
+verdict_written by is source source' sink sink' bytes given empty ends =
+    let done = (subst (λ (output : Output Infallible). Ends {Failure = Infallible} output
+    (edge (Some source.bytes) source.faults) (edge (Some source'.bytes) source'.faults)
+    (edge (Some sink.bytes) sink.faults) (edge (Some sink'.bytes) sink'.faults) (Ok tt)) is ends).0 in
+    done.written ∙ ap (λ held. held ++ done.closing) empty ∙ done.may
+    ∙ ap (λ bytes. verdict_text (audit_of bytes)) given
 
 -- what is told of an input isn't empty
 pub some_told : (bytes : List ℕ) → 0 < length (attested_text bytes)

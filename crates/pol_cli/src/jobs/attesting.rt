@@ -16,6 +16,13 @@ use sha2::{Digest, Sha256};
 use std::alloc::{AllocError, Global};
 use std::convert::Infallible;
 
+// What a sink in memory holds.
+fn held_by(alloc: Global, sink: &MemorySink) -> Result<Vec<u8>, AllocError>
+    ensures { IfOk result (λ text. text.items ≡ sink.now.bytes) }
+{
+    sink.bytes().to_vec(alloc)
+}
+
 // The line of the verdict over some bytes. They stand in memory, so no other fault comes than want of it.
 fn verdict_on(alloc: Global, bytes: Vec<u8>) -> Result<Vec<u8>, AllocError>
     ensures { IfOk result (λ text. text.items ≡ verdict_text (audit_of bytes.items)) }
@@ -23,7 +30,7 @@ fn verdict_on(alloc: Global, bytes: Vec<u8>) -> Result<Vec<u8>, AllocError>
     let mut source = MemorySource::new(bytes, Vec::new(alloc));
     let mut sink = MemorySink::new(alloc, Vec::new(alloc));
     match work(alloc, &mut Auditing::new(alloc), &mut source, &mut sink) {
-        Ok(()) => sink.bytes().to_vec(alloc),
+        Ok(()) => held_by(alloc, &sink),
         Err(JobFault::Read | JobFault::Write | JobFault::Memory | JobFault::TooMuch) => {
             Err(AllocError)
         }
