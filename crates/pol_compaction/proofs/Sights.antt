@@ -118,7 +118,7 @@ module _ (whole less : History) where
       go (inr same) = rw (same.stands.docking, same.value name)
 
   -- so a batch sees the same
-  sights_same : (binds : List Bind) → AreSame binds →
+  pub sights_same : (binds : List Bind) → AreSame binds →
       sights_by binds (λ tag. past tag less) ≡ sights_by binds (λ tag. past tag whole)
   sights_same binds same =
       ap (λ views. sees binds views (λ role name. variable_sight (λ tag. past tag less) name (bound_tag binds role)))
@@ -163,7 +163,7 @@ module _ (gone : List (List ℕ)) (whole less : History) (alike : BatchesAlike g
   )
 
   -- what comes next for a batch whose modules look the same
-  next_same : (batch : List ℕ) → is_among gone batch ≡ false →
+  pub next_same : (batch : List ℕ) → is_among gone batch ≡ false →
       ((started : Started) → start_of whole batch ≡ Some started → AreSame whole less (given started.binds)) →
       next_of less batch ≡ next_of whole batch
   next_same batch out sees_same =

@@ -12,7 +12,7 @@ use Rattle.pol_compaction.specs.Alike.{AnswersAlike, IsSameModule}
 module _ (gone : List (List ℕ)) (whole less : History) (alike : AnswersAlike gone whole less)
     (room : is_full whole ≡ false) where
   -- the shorter history isn't full where the whole one isn't
-  less_room : is_full less ≡ false
+  pub less_room : is_full less ≡ false
   less_room = go (is_full less) refl
     where
       go : (full : Bool) → is_full less ≡ full → is_full less ≡ false

@@ -19,11 +19,11 @@ use Rattle.pol_core.specs.Recipes.{names_in}
 use Rattle.pol_compaction.specs.Alike.{AnswersAlike, IsSameModule, LooksSame}
 use Rattle.pol_compaction.specs.Lasting.{closed_batches}
 use Rattle.pol_compaction.proofs.Sights.{same_view}
-use Rattle.pol_overview.specs.Batches.{batch_data}
 use Rattle.pol_overview.specs.Lists.{each_data}
 use Rattle.pol_overview.specs.May.{Allows, code_if, goes_out, is_asked, may_of}
 use Rattle.pol_overview.specs.Modules.{described_data, described_or_null, module_data, modules_data, service_data}
 use Rattle.pol_overview.specs.Modules.{variable_data}
+use Rattle.pol_renewed.proofs.Batched.{active_same, batch_same, standing_same, waits_same}
 use Rattle.pol_renewed.proofs.Commanded.{command_same}
 use Rattle.pol_renewed.proofs.Renewing.{alike_renewed}
 use Rattle.pol_renewed.specs.Overviews.{CompactionTellsAlike, TellsSame, nothing_allowed}
@@ -102,12 +102,6 @@ module _ (gone : List (List ℕ)) (whole less : History) (alike : AnswersAlike g
       (alike.modules tag)))
       ∙ ap (λ tags. each_data (module_data allows whole) (in_byte_order tags)) alike.same_tags
 
-  -- a batch that isn't forgotten
-  batch_same : (batch : List ℕ) → is_among gone batch ≡ false → batch_data less batch ≡ batch_data whole batch
-  batch_same batch out =
-      let same = alike.running.batches batch out in
-      rw (same.start, same.outcome, same.holding, same.frozen, same.log) refl
-
   -- so the same is told
   tells_same : TellsSame gone whole less
   tells_same = record {
@@ -118,7 +112,10 @@ module _ (gone : List (List ℕ)) (whole less : History) (alike : AnswersAlike g
         (λ tag service. may_same nothing_allowed whole less tag service
         (λ command. none_goes less tag service command ∙ sym (none_goes whole tag service command)));
     recipe_names = ap names_in alike.running.same_recipes;
-    batch = batch_same;
+    batch = λ batch out room. batch_same gone whole less alike batch out room;
+    standing = standing_same gone whole less alike;
+    active = active_same gone whole less alike;
+    waits = waits_same gone whole less alike;
     listed = alike.running.listed;
   }
 

@@ -27,7 +27,8 @@ pub fn compaction_guards_alike()
 
 /// After the events that stay of a history, and whatever came later, the same is told of the modules, of the recipes,
 /// and of each batch that wasn't closed there, as after all of them; also which commands would go out, whoever may send
-/// them, unless the history was full. The events are orderly; those that come later are any.
+/// them, and what comes next of a batch, unless the history was full. The events are orderly; those that come later are
+/// any.
 pub fn compaction_tells_alike()
     ensures { CompactionTellsAlike }
 {}
