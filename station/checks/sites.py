@@ -227,6 +227,17 @@ class Small(unittest.TestCase):
         again = shown.obstacles("b", rows, {"wait": third, "since": 9})
         self.assertEqual([each["since"] for each in again], [9, first[1]["since"]])
 
+    def test_modules_that_the_program_offers_to_bind_and_to_watch(self):
+        asked, both = [], {"pump": "D1", "tank": "T1"}
+        roles = [{"role": role, "type": role} for role in both]
+        plant = types.SimpleNamespace(past=types.SimpleNamespace(roles=lambda _: roles), modules=dict,
+                                      would_all=lambda pairs: asked.extend(pairs) or [DONE])
+        deeds = types.SimpleNamespace(start_event=lambda batch, recipe, tags: tags)
+        shown = Shown(types.SimpleNamespace(plant=plant, deeds=deeds))
+        for more in ({"bind": both}, {"bind": {"pump": "D1"}, "watch": {"tank": "T1"}}):
+            made = shown.recipe("b1", {"recipe": "draw", **more}, "dan")
+            self.assertEqual((made["assigned"], made["why"], asked.pop()), (both, None, (both, "dan")))
+
     def test_limits_that_are_near(self):
         """As the program tells them, or, of an older one, by its entries."""
         for state, wanted in (({"near": ["BatchesFull", "RecipesFull"]}, ["near_batches", "near_recipes"]),

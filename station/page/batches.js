@@ -1,7 +1,7 @@
 // Batches, what each waits for and what may be done with it; recipes, and how each could be started now.
 "use strict";
 const batches = (() => {
-  const { make, button, faint } = draw;
+  const { make, kept, button, faint } = draw;
   const DEEDS = ["hold", "freeze", "thaw", "stop", "abandon"], LOUD = new Set(["stop", "abandon"]);
   // What `pol` says of what a batch waits for, or that it goes on.
   const waits = batch => (batch.wait ? words.answer(batch.wait) : words.say("goesOn"));
@@ -26,14 +26,14 @@ const batches = (() => {
     return found.length ? found.map(line) : steps(each);
   }
   const batch = live => each => {
-    const presses = DEEDS.map(deed => button(words.say(`deed_${deed}`), { do: deed, batch: each.batch },
+    const presses = () => DEEDS.map(deed => button(words.say(`deed_${deed}`), { do: deed, batch: each.batch },
       each.presses[deed], { loud: LOUD.has(deed), sure: deed === "abandon" }));
     return make("article", { class: "item", "data-key": `batch ${each.batch}` },
       make("h3", {}, make("span", {}, each.batch), faint(`${each.recipe}: ${words.played(each)}`)),
       make("p", { class: "waits" }, standing(each) ? make("b", {}, `${standing(each)}. `) : "", waits(each), " ",
         each.since ? make("span", { class: "faint", "data-since": each.since }) : null),
       ...within(each, live),
-      make("div", { class: "buttons", "data-key": "deeds" }, ...presses),
+      kept("deeds", each.presses, () => make("div", { class: "buttons" }, ...presses())),
       ...charts.parts(each, live.batches.length));
   };
   // The modules that a person chose for roles of recipes, and what a start on them would be answered, as it was asked.

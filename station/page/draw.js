@@ -37,19 +37,46 @@ const draw = (() => {
     fill(old, [...fresh.childNodes]);
     if (chosen !== null && [...old.options].some(option => option.value === chosen)) old.value = chosen;
   }
+  // A part that is built only where it isn't there yet, or was built of other facts: most of what is drawn stays as it
+  // was.
+  function kept(key, facts, build) {
+    const part = make("kept-part", { "data-key": key });
+    part.kept = { facts: JSON.stringify([facts, armed.deed, words.isGerman()]), build };
+    return part;
+  }
+  function built(part) {
+    const made = part.kept.build();
+    made.dataset.key = part.dataset.key;
+    made.facts = part.kept.facts;
+    return made;
+  }
+  // An element with all its parts built.
+  function whole(node) {
+    const made = node.kept ? built(node) : node;
+    if (made.nodeType === Node.ELEMENT_NODE) {
+      for (const part of made.querySelectorAll("kept-part")) part.replaceWith(whole(part));
+    }
+    return made;
+  }
+  const stays = (own, part) => part.kept !== undefined && own.facts === part.kept.facts;
+  // What stands within an element becomes what is to stand there. Answers what stands there then.
+  function become(own, part) {
+    if (own && stays(own, part)) return own;
+    const made = part.kept ? built(part) : part;
+    if (!own || !isAlike(own, made)) return whole(made);
+    patch(own, made);
+    own.facts = made.facts;
+    return own;
+  }
   // What is to be within an element, in this order.
   function fill(holder, fresh) {
     const keyed = new Map([...holder.childNodes].filter(keyOf).map(node => [keyOf(node), node]));
     let place = holder.firstChild;
-    for (const node of fresh) {
-      const own = keyOf(node) ? keyed.get(keyOf(node)) : place && !keyOf(place) ? place : null;
-      if (own && isAlike(own, node)) {
-        patch(own, node);
-        if (own === place) place = place.nextSibling;
-        else holder.insertBefore(own, place);
-      } else {
-        holder.insertBefore(node, place);
-      }
+    for (const part of fresh) {
+      const own = keyOf(part) ? keyed.get(keyOf(part)) : place && !keyOf(place) ? place : null;
+      const made = become(own, part);
+      if (made === place) place = place.nextSibling;
+      else holder.insertBefore(made, place);
     }
     while (place) {
       const next = place.nextSibling;
@@ -72,5 +99,5 @@ const draw = (() => {
       disabled: why !== null, title: why === null ? null : reason(why), "data-sure": sure }, text);
   }
   const faint = (...within) => make("span", { class: "faint" }, ...within);
-  return { make, fill, into, button, faint, reason, armed };
+  return { make, kept, fill, into, button, faint, reason, armed };
 })();

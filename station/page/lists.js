@@ -1,7 +1,7 @@
 // What stands still and why, on top; what was refused and what to do; what happened last.
 "use strict";
 const lists = (() => {
-  const { make, button } = draw;
+  const { make, kept, button } = draw;
   // In milliseconds: a batch that waits for its service's next state stands still only after this.
   const PATIENCE = 5000;
   const LOUD = new Set(["restarted"]);
@@ -33,9 +33,9 @@ const lists = (() => {
   function refused({ place, event, answer, by }) {
     const rule = answer.rule && words.rule(answer.rule, answer);
     const remedy = rule ? rule.remedy : words.say(answer.policy === undefined ? "deniedByNoneMore" : "deniedMore");
-    return make("p", { class: "row", "data-key": `${place ?? ""} ${event.at} ${JSON.stringify(event)}` },
+    return kept(`${place ?? ""} ${event.at} ${JSON.stringify(event)}`, answer, () => make("p", { class: "row" },
       make("span", { class: "no" }, `${words.event({ ...event, by })}: ${words.answer(answer)}. `),
-      `${words.say("remedy")}: ${remedy.replace(/\.$/, "")}.`);
+      `${words.say("remedy")}: ${remedy.replace(/\.$/, "")}.`));
   }
   // The kind of a variable, by which its value is said.
   function kindIn(live, tag, name) {
@@ -46,8 +46,8 @@ const lists = (() => {
   function last(live) {
     const said = ({ event, answer, by }) =>
       `${words.event({ ...event, by }, (tag, name) => kindIn(live, tag, name))} → ${words.answer(answer)}`;
-    return each => make("p", { class: "row", "data-key": `entry ${each.place ?? JSON.stringify(each.event)}` },
-      each.place === null ? "" : `${each.place + 1}: `, said(each));
+    return each => kept(`entry ${each.place ?? JSON.stringify(each.event)}`, each, () =>
+      make("p", { class: "row" }, each.place === null ? "" : `${each.place + 1}: `, said(each)));
   }
   const calm = said => make("p", { class: "faint" }, words.say(said));
   // For who doesn't see it: what stands still, told where that changed.

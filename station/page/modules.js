@@ -1,7 +1,7 @@
 // The modules: who has each, what its services are in, what it shows, and the commands that the person may give.
 "use strict";
 const modules = (() => {
-  const { make, button, faint } = draw;
+  const { make, kept, button, faint } = draw;
   const STYLES = { Idle: "idle", Execute: "run", Completed: "full", Starting: "move", Completing: "move",
     Resetting: "move", Resuming: "move", Unholding: "move", Pausing: "pause", Paused: "pause", Holding: "hold",
     Held: "hold", Stopping: "stop", Stopped: "stop", Aborting: "abort", Aborted: "abort" };
@@ -33,13 +33,14 @@ const modules = (() => {
         { loud: LOUD.has(name), sure: SURE.has(name) });
     });
   }
+  const buttons = all => make("div", { class: "buttons" }, ...all);
   function service(tag, each) {
     const { view } = each, mode = view ? `${view.Mode}${view.Mode === "Automatic" ? `, ${view.Src}` : ""}` : "";
     return make("div", { class: "service", "data-key": `service ${each.name}` },
       make("div", { class: "head" }, make("b", {}, words.visible(each.label)),
         view ? state(view.StateCur) : make("span", { class: "state" }, words.say("unreported")), faint(mode)),
-      view ? make("div", { class: "buttons", "data-key": "modes" }, ...choices(tag, each)) : null,
-      make("div", { class: "buttons", "data-key": "commands" }, ...commands(tag, each)));
+      view ? kept("modes", [view.Mode, view.Src, each.may_choose], () => buttons(choices(tag, each))) : null,
+      kept("commands", each.may, () => buttons(commands(tag, each))));
   }
   // Who has a module, or that it is away.
   function whose(module) {
@@ -80,7 +81,7 @@ const modules = (() => {
         make("span", { class: "push" }), faint(whose(each))),
       isOld ? make("p", { class: "bad" }, words.say("notThere")) : null,
       ...(each.ticket === null ? shown(each) : []),
-      make("div", { class: "buttons", "data-key": "deeds" }, ...deeds(each)));
+      kept("deeds", [each.ticket, each.presses, each.ends, chosen[each.tag]], () => buttons(deeds(each))));
   }
   // A tag of the site under which nothing stands.
   function absent({ tag, package: name, why }) {
