@@ -17,7 +17,7 @@ use Rattle.pol_history.specs.Modules.{docking_of, view_of}
 use Rattle.pol_history.proofs.Accepted.{with_room}
 use Rattle.pol_runs.specs.Waits.{waits_by}
 use Rattle.pol_core.specs.Calls.{module_sight, standing_of}
-use Rattle.pol_core.specs.Steps.{active_of, waits_of, waits_of_started}
+use Rattle.pol_core.specs.Steps.{active_of, active_of_started, waits_of, waits_of_started}
 use Rattle.pol_core.specs.declared.standing.Standing.{Standing}
 use Rattle.pol_core.specs.declared.steps.ActiveStep.{ActiveStep}
 use Rattle.pol_compaction.specs.Alike.{AnswersAlike, IsSameModule, RunsSame}
@@ -54,7 +54,16 @@ module _ (gone : List (List ℕ)) (whole less : History) (alike : AnswersAlike g
 
     -- the same steps are active
     pub active_same : active_of less batch ≡ active_of whole batch
-    active_same = rw (alike.running.same_recipes, same.start, same.log) refl
+    active_same =
+        ap (λ started. unwrap_or (option_and_then (active_of_started (recipes less) (past_of_batch batch less)) started)
+        []) same.start
+        ∙ ap (λ active. unwrap_or active []) (go (start_of whole batch))
+      where
+        go : (started : Option Started) →
+            option_and_then (active_of_started (recipes less) (past_of_batch batch less)) started
+            ≡ option_and_then (active_of_started (recipes whole) (past_of_batch batch whole)) started
+        go None = refl
+        go (Some started) = rw (same.log, alike.running.same_recipes) refl
 
     -- and its nodes wait for the same
     pub waits_same : waits_of less batch ≡ waits_of whole batch
