@@ -6,7 +6,8 @@
 //! stands for. It may go along any other log too, and passes over what may not come in it. What comes next is worked
 //! out by `next_after` (`specs/Next.antt`); the laws in `laws` say that it is the defined next entry, that it keeps a
 //! run a run, and that it commands only what a recipe may give. One walk over the open nodes serves all that is looked
-//! for among them (`Visitor`): what comes next, which step runs, and which one broke.
+//! for among them (`Visitor`): what comes next, which steps run, which one broke, and which nodes wait for what
+//! (`specs/Listing.antt`).
 //!
 //! What an open batch does next is defined here too (`next_by` in `specs/NextEntry.antt`), since it is said of a
 //! chart, a log and what is seen alone: the crates that look back and those that keep runs cite one text.

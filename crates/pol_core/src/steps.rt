@@ -72,8 +72,8 @@ pub fn active_steps(
     bound_steps(alloc, run.binds(), &running)
 }
 
-/// The awaited nodes of a batch that aren't ready, each with what stands in its way, in chart order; none where the batch
-/// wasn't started, broke, or is to be stopped.
+/// The awaited nodes of a batch that aren't ready, each with what stands in its way, in chart order; none where the
+/// batch wasn't started, broke, or is to be stopped.
 pub fn waiting_nodes(
     alloc: Global,
     modules: &Table<Slot>,

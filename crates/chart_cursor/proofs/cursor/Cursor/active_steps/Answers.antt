@@ -27,5 +27,5 @@ returns c =
     (ap (λ (k : Kept). k.chart) c.self.view_is) c.self.invariant.valid in
     let found = rw (same, marks) at c.running_steps.ensures in
     IfOk-weaker c.running_steps.result _ _
-    (λ (steps : Vec RunningStep Global) listed. listed ∙ running_active (plain_chart chart) (marks_of c.args.self.now.marks) word
-    c.args.from valid stands) found
+    (λ (steps : Vec RunningStep Global) listed. listed
+    ∙ running_active (plain_chart chart) (marks_of c.args.self.now.marks) word c.args.from valid stands) found
