@@ -9,5 +9,5 @@ fn main(rt: HostRuntime) -> ExitCode {
     let ledger = FileDisk::new(&rt, "pol.plant", ".", Unknown);
     // A journal is written of an operated plant, where the folder has no kept one.
     let file = FileToRead::unless(&rt, "pol.plant", "pol.journal");
-    pol_cli::run(&rt, disk, ledger, file)
+    pol_cli::run(&rt, disk, ledger, &|ledger| ledger.is_in_use(), file)
 }

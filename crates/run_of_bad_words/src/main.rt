@@ -8,5 +8,5 @@ fn main(rt: HostRuntime) -> ExitCode {
     let disk = FileDisk::new(&rt, "pol.journal", ".", Unknown);
     let ledger = FileDisk::new(&rt, "pol.plant", ".", Unknown);
     let file = FileToRead::unless(&rt, "pol.plant", "pol.journal");
-    pol_cli::run(&rt, disk, ledger, file)
+    pol_cli::run(&rt, disk, ledger, &|ledger| ledger.is_in_use(), file)
 }
