@@ -7,7 +7,7 @@ import time
 # Lines that are asked together have to fit into a pipe, with their answers.
 MOST_AT_ONCE, PAGE = 20, 1000
 # The program of a station that was killed still has the file for a moment.
-PATIENCE, PAUSE, IN_USE = 30.0, 0.2, 10
+PATIENCE, PAUSE, IN_USE = 30.0, 0.2, 13
 MOST_BEGINNINGS, LEAVE = 5, 20
 # Bytes: one run of the program takes 256 MiB of input; before that it is ended and begun anew.
 MOST_INPUT = 200_000_000
