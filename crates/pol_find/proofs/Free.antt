@@ -29,7 +29,8 @@ use Rattle.pol_table.proofs.ByteOrder.{order_length, order_sorted}
 use Rattle.pol_core.specs.Calls.{module_sight}
 use Rattle.pol_match.specs.Bindings.{AreInOrder, name_cmp, tags_in}
 use Rattle.pol_match.specs.Fits.{PlainCandidate}
-use Rattle.pol_find.specs.Candidates.{candidate_in, candidate_of, candidate_with, docked_candidates_of, candidates_by, candidates_of}
+use Rattle.pol_find.specs.Candidates.{candidate_in, candidate_of, candidate_with, candidates_by, candidates_of}
+use Rattle.pol_find.specs.Candidates.{docked_candidates_of}
 use Rattle.pol_find.specs.Candidates.{docked_candidate_of, docked_candidate_with, idle_services, is_docked, is_idle_at}
 use Rattle.pol_find.specs.Candidates.{is_seen_idle}
 use Rattle.pol_find.specs.declared.candidates.Pool.{Pool}
@@ -197,7 +198,8 @@ tags_kept pool history (tag ∷ tags) = go (candidate_in pool history tag) refl 
         ∙ ap (λ later. tag ∷ later) rest
 
 -- the tags stand in byte order, each once
-pub candidates_in_order : (pool : Pool) (history : History) → AreInOrder (candidates_by (candidate_in pool history) history)
+pub candidates_in_order : (pool : Pool) (history : History) →
+    AreInOrder (candidates_by (candidate_in pool history) history)
 candidates_in_order pool history =
     let tags = in_byte_order (present_tags history) in
     subst (IsStrictlySortedBy name_cmp) (sym (tags_kept pool history tags))

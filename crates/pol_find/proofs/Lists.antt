@@ -1,6 +1,6 @@
 -- Members of lists.
-use Rattle.std.proofs.Common.{◌≡◌, Bool, true, false, cond, not, Option, Some, None, List, [], ◌∷◌, map, refl, ◌∙◌, ap, inl}
-use Rattle.std.proofs.Common.{inr}
+use Rattle.std.proofs.Common.{◌≡◌, Bool, true, false, cond, not, Option, Some, None, List, [], ◌∷◌, map, refl, ◌∙◌, ap}
+use Rattle.std.proofs.Common.{inl, inr}
 use Rattle.std.specs.Prelude.{◌||◌, filter, filter_map, find}
 use Rattle.std.specs.List.{Contains, cons_option, list_all, list_any}
 use Rattle.std.specs.Option.{option_or}

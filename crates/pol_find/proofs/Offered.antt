@@ -18,7 +18,8 @@ use Rattle.pol_match.specs.Chosen.{binding_of, short_roles, short_tags}
 use Rattle.pol_match.specs.Fits.{PlainCandidate, fits_role, steps_of}
 use Rattle.pol_match.proofs.Ways.{told_least}
 use Rattle.pol_find.specs.Bindings.{OffersAreTold}
-use Rattle.pol_find.specs.Candidates.{candidate_of, candidate_with, docked_candidates_of, candidates_of, docked_candidate_of}
+use Rattle.pol_find.specs.Candidates.{candidate_of, candidate_with, candidates_of, docked_candidate_of}
+use Rattle.pol_find.specs.Candidates.{docked_candidates_of}
 use Rattle.pol_find.specs.Candidates.{idle_services, is_docked}
 use Rattle.pol_find.specs.Lines.{bind_object, names_data, offer_object, short_object}
 use Rattle.pol_find.specs.Offers.{allocation_of, is_all_stepped, is_stepped, offer_with}
@@ -62,7 +63,8 @@ one_unheld history tag free others rest =
     go (away ticket) holder is description = rest
     go (docked count) None is None = rest
     go (docked count) (Some batch) is None = rest
-    go (docked count) None is (Some description) = rw is (ap (λ later. candidate_with history tag description ∷ later) rest)
+    go (docked count) None is (Some description) =
+        rw is (ap (λ later. candidate_with history tag description ∷ later) rest)
     go (docked count) (Some batch) is (Some description) = rw is rest
 
 -- of these tags

@@ -4,10 +4,11 @@
 //! its chart to the modules that are free, or a shortage where there is none; and then how many lines were at fault
 //! (`specs/Found.antt`). What is told is a function of the history (`specs/Told.antt`), and which modules are free is
 //! looked up in it (`specs/Candidates.antt`). Of a plant `put_bindings_line` tells in one line what each recipe is
-//! offered (`specs/Offers.antt`, `specs/Bindings.antt`): the same, where each role has a step (`offers_are_told`); a role
-//! without one is to be watched, by any module that is docked. It knows nothing of how a binding is found, which is
-//! `pol_match`'s. Its laws are that a start with a binding, and so with the one that is told, is done (`bindings_start`,
-//! `told_bindings_start`, `offers_start`), and that there is always one thing to be written (`always_found`).
+//! offered (`specs/Offers.antt`, `specs/Bindings.antt`): the same, where each role has a step (`offers_are_told`); a
+//! role without one is to be watched, by any module that is docked. It knows nothing of how a binding is found, which
+//! is `pol_match`'s. Its laws are that a start with a binding, and so with the one that is told, is done
+//! (`bindings_start`, `told_bindings_start`, `offers_start`), and that there is always one thing to be written
+//! (`always_found`).
 //!
 //! Tried in `pol_examples`.
 #![tactic(auto)]

@@ -51,7 +51,8 @@ loop-tag-preserved c =
     ] in
     record {
       made = looked_next (candidate_in c.args.pool history) tags c.loop-tag.place c.in-Some.tag found before
-          (plain_candidates c.match-branch-2.candidates.items) (candidates_by (candidate_in c.args.pool history) history) (sym c.in-Some.ensures)
+          (plain_candidates c.match-branch-2.candidates.items) (candidates_by (candidate_in c.args.pool history) history)
+          (sym c.in-Some.ensures)
           c.in_ok-candidate.ensures c.loop-tag.invariant.made told;
       low = let within = slice_get_within tags c.loop-tag.place c.in-Some.tag (sym c.in-Some.ensures) in omega arith;
     }
