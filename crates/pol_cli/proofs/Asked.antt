@@ -5,7 +5,7 @@ use Rattle.std.specs.declared.convert.Infallible.{Infallible}
 use Rattle.pol_arguments.specs.Words.{Means}
 use Rattle.pol_arguments.specs.declared.LiveTask.{LiveTask}
 use Rattle.pol_arguments.specs.declared.SerialTask.{SerialTask}
-use Rattle.pol_arguments.specs.declared.SerialTask.TheVariants.{Replay, Demo, Audit, Find, Guard, Migrate}
+use Rattle.pol_arguments.specs.declared.SerialTask.TheVariants.{Replay, Demo, Audit, Find, Guard, Migrate, Attest}
 use Rattle.pol_arguments.specs.declared.Task.{Task}
 use Rattle.pol_arguments.specs.declared.Task.TheVariants.{Serial, Live, Operate}
 use Rattle.pol_arguments.proofs.Meaning.{one_task}
@@ -94,6 +94,7 @@ not_of_serial Find source sink now ends = not_of_job _ no_refusal never_refused 
 not_of_serial Guard source sink now ends =
     not_of_job _ (refused_as Policy) (λ fault none. none) source sink now ends.job
 not_of_serial Migrate source sink now ends = not_of_job _ no_refusal never_refused source sink now ends.job
+not_of_serial Attest source sink now ends = not_of_job _ no_refusal never_refused source sink now ends.job
 
 -- nor has a plant
 not_of_plant : (source sink : Edges) (now : Status) → PlantEnds source sink now → IsOfNoJob now → ⊥

@@ -5,7 +5,7 @@ use Rattle.std.specs.declared.convert.Infallible.{Infallible}
 use Rattle.mtp_json.specs.declared.fault.FaultKind.{FaultKind}
 use Rattle.mtp_json.specs.declared.path.PathPart.{PathPart}
 use Rattle.pol_arguments.specs.declared.SerialTask.{SerialTask}
-use Rattle.pol_arguments.specs.declared.SerialTask.TheVariants.{Replay, Demo, Audit, Find, Guard, Migrate}
+use Rattle.pol_arguments.specs.declared.SerialTask.TheVariants.{Replay, Demo, Audit, Find, Guard, Migrate, Attest}
 use Rattle.pol_arguments.specs.declared.Task.{Task}
 use Rattle.pol_arguments.specs.declared.Task.TheVariants.{Serial, Live, Keep, Export, Compact, Operate}
 use Rattle.pol_disk.proofs.Moments.{started}
@@ -44,6 +44,7 @@ use Rattle.pol_store.specs.Work.{plant_work}
 use Rattle.pol_cli.specs.Audits.{AuditTheorem, audited}
 use Rattle.pol_cli.specs.Keeping.{KeepsInput}
 use Rattle.pol_cli.specs.SiteRuns.{planted}
+use Rattle.pol_cli.specs.Attests.{attested}
 use Rattle.pol_cli.specs.Statuses.{no_refusal, refused_as}
 use Rattle.pol_cli.specs.Tasks.{ExportEnds, JobEnds, JournalEnds, KeepingEnds, KeptEnds, OperatingEnds, SerialEnds}
 use Rattle.pol_cli.specs.Tasks.{TaskEnds, WritesJournal, demonstrated}
@@ -129,6 +130,8 @@ module _ (source sink : Edge) (SameSource SameSink : Type 0) (source_same : Same
   }
   serial_unbegun laws Migrate =
       record { job = no_memory_ends migrating no_refusal source SameSource; migrations = laws.migrations }
+  serial_unbegun laws Attest =
+      record { job = no_memory_ends attested no_refusal source SameSource; audits = laws.audits }
 
   module _ {D : Type 0} (tells : Telling D) (disk : D)
       (only_now : (image : List ℕ) → tells.left_since disk (tells.moment disk) image → tells.images disk image) where

@@ -17,11 +17,11 @@ returns g c =
     (c.in_ok-close_with.ensures.text (attested_text c.in_ok-bytes.bytes.items) c.attested_text.ensures)
     c.in_ok-close_with.ensures.cause.done
 
-pub returns-in_err-read_input : goal.returns-in_err-read_input
-returns-in_err-read_input g c =
+pub returns-in_err-bytes : goal.returns-in_err-bytes
+returns-in_err-bytes g c =
     let fault = err_from_is_err_and c.from_residual.result c.from_residual.ensures.1 in
     let k = g.K.Sink in
-    rw (fault.1, fault.2) (c.in_err-read_input.ensures.ends attested_text
+    rw (fault.1, fault.2) (c.in_err-bytes.ensures.ends attested_text
     (edge (k.held c.args.sink.now) (k.faults c.args.sink.now)))
 
 pub returns-in_err-close_with : goal.returns-in_err-close_with
