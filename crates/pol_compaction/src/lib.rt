@@ -58,8 +58,8 @@ pub fn lasting_run_alone()
 
 /// The events that stay of a history, run by themselves, are answered as they were; and whatever comes later is
 /// answered after them as after the whole history, but for what names a batch that was closed there and what is refused
-/// there as full. Then the lines of all other batches are the same. The events are orderly, as those that lines say are;
-/// those that come later are any.
+/// there as full. Then the lines of all other batches are the same. The events are orderly, as those that lines say
+/// are; those that come later are any.
 pub fn compaction_keeps_answers()
     ensures kept { KeptIsAnsweredAgain }
     ensures later { LaterIsAnsweredAlike }
