@@ -157,12 +157,12 @@ class Shown:
         return [self.recipe(batch, found, by) for found in self.plant.bindings()]
 
     def recipe(self, batch, found, by):
-        """A recipe with its roles, each with the modules of its type, and one module for each: as the finder has them,
-        or else as they are found by asking, since a module that is only read may be another batch's."""
+        """A recipe with its roles, each with the modules of its type, and one module for each: as the plant offers them,
+        to hold or to watch, or else as they are found by asking, which tells what is wrong."""
         recipe = found["recipe"]
         roles = [{**role, "tags": self.tags_of(role["type"])} for role in self.plant.past.roles(recipe)]
-        own = [{**found["bind"], **found.get("watch", {})}] if "bind" in found else []
-        tried = own or list(itertools.islice(assignments(roles), MOST_TRIED))
+        offered = {**found.get("bind", {}), **found.get("watch", {})}
+        tried = [offered] if offered else list(itertools.islice(assignments(roles), MOST_TRIED))
         whys = self.presses([self.deeds.start_event(batch, recipe, tags) for tags in tried], by)
         best = next((place for place, why in enumerate(whys) if why is None), 0)
         assigned = {role["role"]: tried[best][role["role"]] for role in roles} if tried else None
