@@ -4,7 +4,7 @@ use pol_arguments::{LiveTask, SerialTask, Task, WordFault, read_words};
 use std::test::Fail;
 
 /// Words that ask for a task.
-const TASKS: [(&str, Task); 16] = [
+const TASKS: [(&str, Task); 17] = [
     ("pol --job replay", Task::Serial(SerialTask::Replay)),
     ("pol --job=replay", Task::Serial(SerialTask::Replay)),
     ("pol --job=demo --seed 0", Task::Serial(SerialTask::Demo(0))),
@@ -23,6 +23,7 @@ const TASKS: [(&str, Task); 16] = [
     ),
     ("pol --job audit", Task::Serial(SerialTask::Audit)),
     ("pol --job=audit", Task::Serial(SerialTask::Audit)),
+    ("pol --job attest", Task::Serial(SerialTask::Attest)),
     ("pol --job find", Task::Serial(SerialTask::Find)),
     ("pol --job guard", Task::Serial(SerialTask::Guard)),
     ("pol --job migrate", Task::Serial(SerialTask::Migrate)),
@@ -33,7 +34,7 @@ const TASKS: [(&str, Task); 16] = [
 ];
 
 /// Words that ask for none.
-const REFUSED: [&str; 23] = [
+const REFUSED: [&str; 24] = [
     "pol",
     "pol replay",
     "pol --job",
@@ -52,6 +53,7 @@ const REFUSED: [&str; 23] = [
     "pol --job replay --watchers 0",
     "pol --job audit --seed 1",
     "pol --job audit --watchers 0",
+    "pol --job attest --seed 1",
     "pol --job guard --seed 1",
     "pol --job find --watchers 1",
     "pol --job keep --seed 1",

@@ -1,4 +1,4 @@
-//! Histories that the job audit is given: true ones, and what is told of the others.
+//! Histories that the jobs audit and attest are given: true ones, and what is told of the others.
 use super::plants::{entry_in, run_site};
 use super::runs::{Journal, run, run_each};
 use given::SITE;
@@ -67,9 +67,33 @@ const HISTORIES: [Journal; 9] = [
     },
 ];
 
+// Histories with the verdict over each, and behind it how many bytes were read and their checksum as `sha256sum` tells it.
+const ATTESTED: [Journal; 3] = [
+    Journal {
+        title: "no input at all",
+        input: "",
+        output: "{\"audit\":\"bad\",\"place\":0,\"why\":\"Tail\"}\n{\"bytes\":0,\"sha256\":\"e3b0c44298fc1c149afbf4c8996fb92427ae41e4649b934ca495991b7852b855\"}\n",
+    },
+    Journal {
+        title: "the end line alone",
+        input: "{\"end\":true}\n",
+        output: "{\"audit\":\"good\",\"entries\":0}\n{\"bytes\":13,\"sha256\":\"0a69ec21c6ed0af2eb33dba46a3662118201fc07c75aed9ea0b0973d6342d65b\"}\n",
+    },
+    Journal {
+        title: "the end line without its line feed is another file",
+        input: "{\"end\":true}",
+        output: "{\"audit\":\"good\",\"entries\":0}\n{\"bytes\":12,\"sha256\":\"0b641b9e6de44e51a395c24f29db49268a044dd4b61c57f89e540bff697cee44\"}\n",
+    },
+];
+
 #[test]
 fn the_verdict_tells_the_first_thing_that_is_wrong(rt: HostRuntime) -> Result<(), Fail> {
     run_each(&rt, rt.alloc(), "pol --job audit", &HISTORIES)
+}
+
+#[test]
+fn an_attested_verdict_tells_which_bytes_were_read(rt: HostRuntime) -> Result<(), Fail> {
+    run_each(&rt, rt.alloc(), "pol --job attest", &ATTESTED)
 }
 
 // How many of the lines are entries.
