@@ -45,6 +45,7 @@ use Rattle.pol_cli.specs.Audits.{AuditTheorem, audited}
 use Rattle.pol_cli.specs.Keeping.{KeepsInput}
 use Rattle.pol_cli.specs.SiteRuns.{planted}
 use Rattle.pol_cli.specs.Attests.{attested}
+use Rattle.pol_cli.specs.Compacting.{CompactionTheorem}
 use Rattle.pol_cli.specs.Statuses.{no_refusal, refused_as}
 use Rattle.pol_cli.specs.Tasks.{ExportEnds, JobEnds, JournalEnds, KeepingEnds, KeptEnds, OperatingEnds, SerialEnds}
 use Rattle.pol_cli.specs.Tasks.{TaskEnds, WritesJournal, demonstrated}
@@ -59,6 +60,7 @@ pub record JobLaws : Type 0 where
   pub audits : (bytes : List ℕ) → AuditTheorem bytes
   pub guards : (bytes : List ℕ) → GuardTheorem bytes
   pub migrations : MigrationKeepsOutputs
+  pub compaction : CompactionTheorem
   pub bindings : BindingsStart
   pub operated : LinesAreGuarded
   pub operations : OperatedIsRun
@@ -248,5 +250,8 @@ module _ (source sink : Edge) (SameSource SameSink : Type 0) (source_same : Same
       }
       unbegun_ends laws Keep file rest = keeping_unbegun tells disk only_now
       unbegun_ends laws Export file rest = journal_unbegun tells disk only_now Whole file rest
-      unbegun_ends laws Compact file rest = journal_unbegun tells disk only_now Compacted file rest
+      unbegun_ends laws Compact file rest = record {
+        journal = journal_unbegun tells disk only_now Compacted file rest;
+        compaction = laws.compaction;
+      }
       unbegun_ends laws Operate file rest = operating_unbegun told ledger only_then laws

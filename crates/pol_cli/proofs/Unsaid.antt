@@ -1,7 +1,7 @@
 -- An input that the job on an operated plant refuses has no policy.
-use Rattle.std.proofs.Common.{ℕ, ◌≡◌, ◌∙◌, ◌<◌, List, [], ◌∷◌, ◌++◌, Bool, true, false, Option, Some, None, Ok, Err}
-use Rattle.std.proofs.Common.{ap, append-nil, append_assoc, arith, cond, map, refl, subst, sym, if◌then◌else◌}
-use Rattle.std.specs.Prelude.{◌==◌, IsTrue, filter, length}
+use Rattle.std.proofs.Common.{ℕ, ◌≡◌, ◌∙◌, List, [], ◌∷◌, ◌++◌, Bool, true, false, Option, Some, None, Ok, Err}
+use Rattle.std.proofs.Common.{ap, append-nil, append_assoc, cond, map, refl, subst, sym, if◌then◌else◌}
+use Rattle.std.specs.Prelude.{◌==◌, IsTrue, filter}
 use Rattle.std.specs.List.{AllByRecursion, flat_map}
 use Rattle.std.specs.Result.{result_ok}
 use Rattle.std.proofs.lemmas.List.{map-append}
@@ -19,7 +19,7 @@ use Rattle.pol_operate.specs.Kept.{first_known, known_behind, operated}
 use Rattle.pol_operate.specs.Work.{Known, RefusesBy, RefusesEndBy, operate_work, policy_said}
 use Rattle.pol_replay.specs.Meanings.{is_some_line}
 use Rattle.pol_rights.specs.Rules.{PlainPlantPolicy}
-use Rattle.pol_cli.specs.Operating.{HasNoPolicy, plant_policy_among, plant_policy_of}
+use Rattle.pol_cli.specs.Operating.{HasNoPolicy, plant_policy_among}
 
 -- ---- the first pieces of a text are those of their bytes
 

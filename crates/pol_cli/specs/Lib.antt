@@ -5,6 +5,7 @@ pub mod SiteTexts
 pub mod SiteRuns
 pub mod Audits
 pub mod Attests
+pub mod Compacting
 pub mod Keeping
 pub mod Operating
 pub mod Worked

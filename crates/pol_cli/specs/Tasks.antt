@@ -18,6 +18,7 @@ use Rattle.pol_jobs.specs.LineWork.{Output, texts_of}
 use Rattle.pol_jobs.specs.declared.fault.JobFault.{JobFault}
 use Rattle.pol_cli.specs.Attests.{attested}
 use Rattle.pol_cli.specs.Audits.{AuditTheorem, audited}
+use Rattle.pol_cli.specs.Compacting.{CompactionTheorem}
 use Rattle.pol_find.specs.Finding.{found}
 use Rattle.pol_find.specs.Starts.{BindingsStart}
 use Rattle.pol_guard.specs.Guarded.{guarded}
@@ -180,6 +181,14 @@ pub record JournalEnds {D : Type 0} (extent : Extent) (source sink : Edges) (dis
   -- the source isn't read
   pub unread : source.Untouched
 
+-- how a compaction ended
+pub record CompactEnds {D : Type 0} (source sink : Edges) (disk : Disks D) (file : File) (status : Status) : Type 0
+  where
+    -- its output is the journal of the events that stay
+    pub journal : JournalEnds Compacted source sink disk file status
+    -- whatever the events: the plant goes on from what stays as from all of them
+    pub compaction : CompactionTheorem
+
 -- How the job on an operated plant ended, by its source, its sink and its ledger's disk: with some result, whose status
 -- this is and whose row of `OperateEnds` holds.
 pub record OperatedEnds {D : Type 0} (source sink : Edges) (ledger : Disks D) (status : Status) : Type 0 where
@@ -239,7 +248,7 @@ TaskEnds (Serial task) source sink disk ledger file status = SerialEnds task sou
 TaskEnds (Live task) source sink disk ledger file status = PlantEnds source sink status
 TaskEnds Keep source sink disk ledger file status = KeepingEnds source sink disk status
 TaskEnds Export source sink disk ledger file status = JournalEnds Whole source sink disk file status
-TaskEnds Compact source sink disk ledger file status = JournalEnds Compacted source sink disk file status
+TaskEnds Compact source sink disk ledger file status = CompactEnds source sink disk file status
 TaskEnds Operate source sink disk ledger file status = OperatingEnds source sink ledger status
 
 -- ---- what the words have to do with it

@@ -1,13 +1,12 @@
 -- A batch is told alike by two plants that are alike, unless the old one is full.
-use Rattle.std.proofs.Common.{◌≡◌, ℕ, false, List, [], map, Option, None, Some, refl, ap, sym, ◌∙◌, inl, inr}
+use Rattle.std.proofs.Common.{◌≡◌, ℕ, false, List, [], Option, None, Some, refl, ap, sym, ◌∙◌, inl, inr}
 use Rattle.std.specs.Prelude.{filter_map, option_and_then, unwrap_or, Bool}
 use Rattle.std.specs.Option.{option_map}
 use Rattle.std.proofs.Math.Path.{fun_ext}
-use Rattle.serde_json.specs.Data.{Data, array}
+use Rattle.serde_json.specs.Data.{array}
 use Rattle.serde_json.specs.View.{items_of}
 use Rattle.mtp_codes.specs.Names.{is_among}
 use Rattle.chart_core.specs.declared.next.Outcome.{Outcome}
-use Rattle.event_json.specs.Written.{written_binds}
 use Rattle.pol_events.specs.Bound.{given}
 use Rattle.pol_events.specs.Events.{PlainEvent, advance}
 use Rattle.pol_history.specs.Answers.{answer_of, advanced, first_rule, is_full, otherwise, rules}

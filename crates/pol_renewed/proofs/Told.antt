@@ -4,7 +4,6 @@ use Rattle.std.specs.Prelude.{◌&&◌, sum}
 use Rattle.std.proofs.Math.Bool.{and-false}
 use Rattle.std.proofs.Math.Path.{fun_ext}
 use Rattle.mtp_codes.specs.Codes.{command_codes}
-use Rattle.mtp_codes.specs.Names.{is_among}
 use Rattle.mtp_codes.specs.declared.command.Command.{Command}
 use Rattle.mtp_assembly.specs.Plain.{PlainVariable}
 use Rattle.mtp_desc.specs.Plain.{PlainDescription, PlainService}

@@ -21,3 +21,17 @@ pub returns-clause-audits : goal.returns-clause-audits
 returns-clause-audits c =
     audit_theorem c.histories_are_sound.ensures.histories c.histories_are_sound.ensures.entries
     c.removal_of_events.ensures c.good_verdicts_are_true.ensures
+
+pub returns-clause-compaction : goal.returns-clause-compaction
+returns-clause-compaction c = record {
+  kept = c.compaction_keeps_answers.ensures.kept;
+  later = c.compaction_keeps_answers.ensures.later;
+  lines = c.compaction_keeps_answers.ensures.lines;
+  shorter = c.compaction_is_no_longer.ensures;
+  again = c.again_changes_nothing.ensures;
+  once = c.once_more_is_at_once.ensures;
+  finds = c.compaction_finds_alike.ensures;
+  replies = c.compaction_guards_alike.ensures.replies;
+  commands = c.compaction_guards_alike.ensures.commands;
+  tells = c.compaction_tells_alike.ensures;
+}

@@ -83,7 +83,10 @@ returns-in-Ok-Compact-clause-ends g c =
     (disks d.bytes d.images d.moment d.left_since d.faults c.args.disk c.export-status-in-Ok-Compact.result.1) _ _
     c.export-status-in-Ok-Compact.result.0
     (rw c.in-Ok-Compact.field-0-is at c.in-Ok-Compact.ensures.ok)
-    (record { writes = c.export-status-in-Ok-Compact.ensures.ends; unread = refl })
+    (record {
+      journal = record { writes = c.export-status-in-Ok-Compact.ensures.ends; unread = refl };
+      compaction = c.laws_hold.ensures.compaction;
+    })
 
 pub returns-in-Ok-Compact-clause-words : goal.returns-in-Ok-Compact-clause-words
 returns-in-Ok-Compact-clause-words g c =
@@ -142,6 +145,7 @@ returns-clause-ends g c =
       audits = c.laws_hold.ensures.audits;
       guards = c.laws_hold.ensures.guards;
       migrations = c.laws_hold.ensures.migrations;
+      compaction = c.laws_hold.ensures.compaction;
       bindings = c.laws_hold.ensures.bindings;
       operated = c.laws_hold.ensures.operated;
       operations = c.laws_hold.ensures.operations;

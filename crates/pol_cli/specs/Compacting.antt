@@ -1,0 +1,30 @@
+-- What is said of a plant that goes on from a compacted journal.
+use Rattle.pol_compaction.specs.Law.{AgainChangesNothing, CompactionIsNoLonger, KeptIsAnsweredAgain}
+use Rattle.pol_compaction.specs.Law.{LaterIsAnsweredAlike, LinesStay, OnceMoreIsAtOnce}
+use Rattle.pol_renewed.specs.Guarded.{CompactionCommandsAlike, CompactionRepliesAlike}
+use Rattle.pol_renewed.specs.Overviews.{CompactionTellsAlike}
+use Rattle.pol_renewed.specs.Renewed.{CompactionFindsAlike}
+
+-- Whatever the events of the plant were, and whatever comes later.
+pub record CompactionTheorem : Type 0 where
+  -- the events that stay are answered as they were
+  pub kept : KeptIsAnsweredAgain
+  -- what comes later is answered behind them as behind all events, but for what names a batch that was closed there and
+  -- what is refused there as full
+  pub later : LaterIsAnsweredAlike
+  -- the lines of the batches that weren't closed there are the same
+  pub lines : LinesStay
+  -- no more events stay than there were
+  pub shorter : CompactionIsNoLonger
+  -- compacting again changes nothing
+  pub again : AgainChangesNothing
+  -- compacting once more behind later events is compacting them all
+  pub once : OnceMoreIsAtOnce
+  -- for new batches the same is found
+  pub finds : CompactionFindsAlike
+  -- under any policy lines are replied to alike
+  pub replies : CompactionRepliesAlike
+  -- and so are an operator's commands
+  pub commands : CompactionCommandsAlike
+  -- the same is told of what stands in the plant
+  pub tells : CompactionTellsAlike
