@@ -212,7 +212,7 @@ class Pages(unittest.TestCase):
         page, plant = self.page, self.plant
         plant.start("torn", "refill", tank="TNK1")
         plant.until_state("TNK1", "fill", "Execute")
-        plant.fault("TNK1", "restart", seconds=10)
+        plant.fault("TNK1", "restart", seconds=30)
         page.until("document.getElementById('still-list').innerText.includes('TNK1 isn\\'t connected')")
         page.until("document.getElementById('still-list').innerText.includes('TNK1 was restarted')")
         self.assertRegex(page.text("still-list"), "since .*, for ")
