@@ -157,8 +157,8 @@ class Shown:
         return [self.recipe(batch, found, by) for found in self.plant.bindings()]
 
     def recipe(self, batch, found, by):
-        """A recipe with its roles, each with the modules of its type, and one module for each: as the plant offers them,
-        to hold or to watch, or else as they are found by asking, which tells what is wrong."""
+        """A recipe with its roles, each with the modules of its type, and one module for each: as the plant offers
+        them, to hold or to watch, or else as they are found by asking, which tells what is wrong."""
         recipe = found["recipe"]
         roles = [{**role, "tags": self.tags_of(role["type"])} for role in self.plant.past.roles(recipe)]
         offered = {**found.get("bind", {}), **found.get("watch", {})}

@@ -247,7 +247,7 @@ const docs = {
   waits: {
     Frozen: {
       "for": "a thaw, a stop or an abandon",
-      "look": "the batch was frozen; thaw, stop or abandon it. After a freeze with \"hold\":true look whether each service is Held: one that may not be held (mode Operator, or its mask) isn't asked, and runs on"
+      "look": "the batch was frozen; thaw, stop or abandon it. After a freeze with \"hold\":true look whether each service is Held: one that may not be held (mode Operator, or its mask) isn't asked, and runs on; an operated plant tells it as {unheld}"
     },
     Away: {
       "for": "a module that is in exchange",

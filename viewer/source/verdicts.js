@@ -1,7 +1,7 @@
-// Which verdict of an audit is shown. That of the job attest tells the size and the checksum of the file that it is of,
-// and is shown for that file alone. The line of the job audit names no file, so it counts where it can be of the history
-// that the files hold: a good one tells a number of entries; a bad one a place, and for a wrong answer what it should be.
-// Believes the verdict and checks nothing else. Knows nothing of how it is shown.
+// Which verdict of an audit is shown. That of the job attest tells the size and the checksum of the file that it is
+// of, and is shown for that file alone. The line of the job audit names no file, so it counts where it can be of the
+// history that the files hold: a good one tells a number of entries; a bad one a place, and for a wrong answer what it
+// should be. Believes the verdict and checks nothing else. Knows nothing of how it is shown.
 "use strict";
 const verdicts = (() => {
   const sameAnswer = (one, two) => JSON.stringify(sorted(one)) === JSON.stringify(sorted(two));
