@@ -3,7 +3,6 @@ use Rattle.pol_compaction.specs.Law.{AgainChangesNothing, CompactionIsNoLonger, 
 use Rattle.pol_compaction.specs.Law.{LaterIsAnsweredAlike, LinesStay, OnceMoreIsAtOnce}
 use Rattle.pol_renewed.specs.Guarded.{CompactionCommandsAlike, CompactionRepliesAlike}
 use Rattle.pol_renewed.specs.Overviews.{CompactionTellsAlike}
-use Rattle.pol_renewed.specs.Renewed.{CompactionFindsAlike}
 
 -- Whatever the events of the plant were, and whatever comes later.
 pub record CompactionTheorem : Type 0 where
@@ -20,8 +19,6 @@ pub record CompactionTheorem : Type 0 where
   pub again : AgainChangesNothing
   -- compacting once more behind later events is compacting them all
   pub once : OnceMoreIsAtOnce
-  -- for new batches the same is found
-  pub finds : CompactionFindsAlike
   -- under any policy lines are replied to alike
   pub replies : CompactionRepliesAlike
   -- and so are an operator's commands

@@ -30,7 +30,6 @@ returns-clause-compaction c = record {
   shorter = c.compaction_is_no_longer.ensures;
   again = c.again_changes_nothing.ensures;
   once = c.once_more_is_at_once.ensures;
-  finds = c.compaction_finds_alike.ensures;
   replies = c.compaction_guards_alike.ensures.replies;
   commands = c.compaction_guards_alike.ensures.commands;
   tells = c.compaction_tells_alike.ensures;
