@@ -115,7 +115,8 @@ const german = {
     Frozen: ["ein Auftauen, Stoppen oder Aufgeben",
       "die Charge wurde eingefroren; auftauen, stoppen oder aufgeben. Nach einem Einfrieren mit \"hold\":true "
       + "nachsehen, ob jeder Dienst in Held ist: einer, der nicht gehalten werden darf (Betriebsart Operator, oder "
-      + "seine Maske), wird nicht gebeten und läuft weiter", "c0c8f549"],
+      + "seine Maske), wird nicht gebeten und läuft weiter; eine betriebene Anlage sagt es als unheld",
+      "666dea01"],
     Away: ["ein Modul, das im Tausch ist",
       "das Modul {tag} wird getauscht; den Tausch beenden oder absagen", "d9f0d8ce"],
     NotReported: ["eine erste Meldung eines Dienstes oder einer Variablen seit dem Andocken",
