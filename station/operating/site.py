@@ -55,13 +55,13 @@ def object_of(path, wrong):
     try:
         found = json.loads(path.read_text(encoding="utf-8"))
     except OSError as fault:
-        wrong.append((str(path), f"{fault.strerror}; a site has this file: station/MODULES.md says what stands in it"))
+        wrong.append((str(path), f"{fault.strerror}; a site has this file: station/PLANT.md says what is in it"))
         return {}
     except ValueError as fault:
         wrong.append((str(path), f"it is no JSON ({fault}); mend it"))
         return {}
     if not isinstance(found, dict):
-        wrong.append((str(path), "it is no JSON object; station/MODULES.md says what stands in it"))
+        wrong.append((str(path), "it is no JSON object; station/PLANT.md says what is in it"))
         return {}
     return found
 
