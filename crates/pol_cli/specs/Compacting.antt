@@ -3,6 +3,7 @@ use Rattle.pol_compaction.specs.Law.{AgainChangesNothing, CompactionIsNoLonger, 
 use Rattle.pol_compaction.specs.Law.{LaterIsAnsweredAlike, LinesStay, OnceMoreIsAtOnce}
 use Rattle.pol_renewed.specs.Guarded.{CompactionCommandsAlike, CompactionRepliesAlike}
 use Rattle.pol_renewed.specs.Overviews.{CompactionTellsAlike}
+use Rattle.pol_renewed.specs.Renewed.{CompactionFindsAlike}
 
 -- Whatever the events of the plant were, and whatever comes later.
 pub record CompactionTheorem : Type 0 where
@@ -23,5 +24,7 @@ pub record CompactionTheorem : Type 0 where
   pub replies : CompactionRepliesAlike
   -- and so are an operator's commands
   pub commands : CompactionCommandsAlike
+  -- for new batches the same bindings are found
+  pub found : CompactionFindsAlike
   -- the same is told of what stands in the plant
   pub tells : CompactionTellsAlike

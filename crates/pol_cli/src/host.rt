@@ -31,7 +31,8 @@ fn unread(error: &io::Error) -> Status {
     }
 }
 
-// Does what the words ask for, with the runtime's input, output and clock, and with this disk, this ledger and this file.
+// Does what the words ask for, with the runtime's input, output and clock, and with this disk, this ledger and this
+// file.
 fn do_asked<R, D: Disk + Drop, L: Disk + Drop, F: Read + Drop, U: Fn(&L) -> bool>(
     rt: &R,
     disk: D,
@@ -85,8 +86,9 @@ fn say<R: Eprint + AllocGlobal>(rt: &R, status: &Status) {
 
 /// The program: it does what its words ask for (`top`), keeps a plant on this disk, or one that is operated on this
 /// ledger, or writes the journal of one of them, of the operated one where its file is given, where they ask for that,
-/// hands on what it wrote (`end`), says on standard error how it ended where not all is good, and ends with the status's
-/// number. Where the ledger failed since another program has it open, as the ledger is asked, that is the status.
+/// hands on what it wrote (`end`), says on standard error how it ended where not all is good, and ends with the
+/// status's number. Where the ledger failed since another program has it open, as the ledger is asked, that is the
+/// status.
 pub fn run<R, D: Disk + Drop, L: Disk + Drop, F: Read + Drop, U: Fn(&L) -> bool>(
     rt: &R,
     disk: D,

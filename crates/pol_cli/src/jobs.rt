@@ -33,9 +33,10 @@ use std::alloc::Global;
 
 /// Does the task. A replay answers each line of the source, and then writes the line of each batch and the end line. A
 /// demo answers a journal of its own, and writes how many answers there were; the source isn't read. An audit reads
-/// what the plant prints, and writes whether it is a true history; one that attests writes too which bytes it read. A finder answers the journal in silence, and writes
-/// for each recipe how it could be bound then. A guard answers a journal under the policy in its first line. A
-/// migration writes a journal of version 1 as one of version 2. It waits for nobody and always returns.
+/// what the plant prints, and writes whether it is a true history; one that attests writes too how many bytes it read
+/// and their SHA-256. A finder writes no answers, and then for each recipe how it could be bound now. A guard answers a
+/// journal under the policy in its first line. A migration writes a journal of version 1 as one of version 2. It waits
+/// for nobody and always returns.
 pub fn serve<S: Source, K: Sink>(
     alloc: Global,
     task: &SerialTask,

@@ -20,7 +20,7 @@ use pol_history::{reports_are_paths, runs_are_legal};
 use pol_migration::migration_keeps_outputs;
 use pol_operate::{operated_are_guarded, operated_are_runs, questions_change_nothing};
 use pol_removal::{removal_of_events, removal_of_lines};
-use pol_renewed::{compaction_guards_alike, compaction_tells_alike};
+use pol_renewed::{compaction_finds_alike, compaction_guards_alike, compaction_tells_alike};
 use pol_safety::{commands_are_permitted, histories_are_sound, logs_follow_charts};
 
 /// Whatever the input: the journal theorem holds of it, and so do those of an audit, of a guard and of a migration, and
@@ -52,6 +52,7 @@ pub fn laws_hold()
     compaction_is_no_longer();
     again_changes_nothing();
     once_more_is_at_once();
+    compaction_finds_alike();
     compaction_guards_alike();
     compaction_tells_alike();
     bindings_start();
