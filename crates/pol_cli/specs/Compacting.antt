@@ -1,9 +1,13 @@
 -- What is said of a plant that goes on from a compacted journal.
+use Rattle.std.specs.Prelude.{◌≡◌, List}
+use Rattle.pol_events.specs.Events.{PlainEvent}
+use Rattle.pol_history.specs.Runs.{AreOrderly}
+use Rattle.pol_find.specs.Bindings.{bindings_text}
 use Rattle.pol_compaction.specs.Law.{AgainChangesNothing, CompactionIsNoLonger, KeptIsAnsweredAgain}
 use Rattle.pol_compaction.specs.Law.{LaterIsAnsweredAlike, LinesStay, OnceMoreIsAtOnce}
 use Rattle.pol_renewed.specs.Guarded.{CompactionCommandsAlike, CompactionRepliesAlike}
 use Rattle.pol_renewed.specs.Overviews.{CompactionTellsAlike}
-use Rattle.pol_renewed.specs.Renewed.{CompactionFindsAlike}
+use Rattle.pol_renewed.specs.Renewed.{renewed_after, whole_after}
 
 -- Whatever the events of the plant were, and whatever comes later.
 pub record CompactionTheorem : Type 0 where
@@ -25,6 +29,7 @@ pub record CompactionTheorem : Type 0 where
   -- and so are an operator's commands
   pub commands : CompactionCommandsAlike
   -- for new batches the same bindings are found
-  pub found : CompactionFindsAlike
+  pub found : (events later : List PlainEvent) → AreOrderly events →
+      bindings_text (renewed_after events later) ≡ bindings_text (whole_after events later)
   -- the same is told of what stands in the plant
   pub tells : CompactionTellsAlike

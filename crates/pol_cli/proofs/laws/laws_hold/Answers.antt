@@ -32,6 +32,6 @@ returns-clause-compaction c = record {
   once = c.once_more_is_at_once.ensures;
   replies = c.compaction_guards_alike.ensures.replies;
   commands = c.compaction_guards_alike.ensures.commands;
-  found = c.compaction_finds_alike.ensures;
+  found = λ events later orderly. (c.compaction_finds_alike.ensures events later orderly).bindings;
   tells = c.compaction_tells_alike.ensures;
 }
