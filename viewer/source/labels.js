@@ -7,12 +7,12 @@ const labels = {
   open: ["Open files", "Dateien öffnen"],
   print: ["Print", "Drucken"], printSheet: ["Print the sheet to sign", "Blatt zum Unterschreiben drucken"],
   drop: ["Drop here what pol wrote", "Hier ablegen, was pol schrieb"],
-  dropMore: ["The output of the job plant, or a journal together with the output of its replay or of the job guard. "
-    + "What the job find says, the verdict of the job audit and the site may come along. A pol.journal is read too. "
+  dropMore: ["The output of the job plant, or a journal with the output of the job replay, keep, guard or operate. "
+    + "The output of find, the verdict of audit or attest and the site may come along. A pol.journal is read too. "
     + "The files stay on this machine.",
-    "Die Ausgabe von plant, oder ein Journal mit der Ausgabe seiner Wiedergabe (replay) oder von guard. Was find sagt, "
-    + "das Urteil von audit und die Anlage dürfen dabei sein. Auch ein pol.journal wird gelesen. Die Dateien bleiben "
-    + "auf diesem Rechner."],
+    "Die Ausgabe von plant, oder ein Journal mit der Ausgabe von replay, keep, guard oder operate. Was find sagt, "
+    + "das Urteil von audit oder attest und die Anlage dürfen dabei sein. Auch ein pol.journal wird gelesen. Die Dateien "
+    + "bleiben auf diesem Rechner."],
   notProved: ["This page is no part of what is proved. It draws what the files say and checks nothing.",
     "Diese Seite ist kein Teil dessen, was bewiesen ist. Sie zeichnet, was die Dateien sagen, und prüft nichts."],
   batches: ["Batches", "Chargen"], modules: ["Modules", "Module"], cursor: ["At the cursor", "Am Cursor"],
@@ -137,7 +137,8 @@ const labels = {
     "über {0}, deren Größe und SHA-256 es nennt; diese Seite verglich sie und prüft sonst nichts"],
   namesFile: ["The verdict is of the file {0}, with the SHA-256 {1}.",
     "Das Urteil gilt der Datei {0} mit der SHA-256 {1}."],
-  sealMissing: ["no verdict of the job audit stands in the files", "in den Dateien steht kein Urteil von audit"],
+  sealMissing: ["the files have no verdict of the job audit or attest",
+    "in den Dateien steht kein Urteil von audit oder attest"],
   goodWords: ["The job audit found {0} entries true: each answer is the one that looking back in the history gives, "
     + "and the batch lines follow.",
     "audit fand {0} Einträge wahr: jede Antwort ist die, die der Blick zurück in die Historie ergibt, und "
