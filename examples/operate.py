@@ -3,11 +3,13 @@
 follows SITE, the file of a site: it plugs its modules, tells its recipes, and runs its batches, which it starts in the
 name of BY, until all are closed. Exchanges and commands of the site it passes over.
 
-It stands between `pol` and the modules. What stands in the plant it asks, also after a crash, and keeps none of it. It
-asks what an event would do before it gives one, so no wait gets into the history. `Module` is what you write; here it
-is simulated. The parts are told in docs/FORMATS.md, "For who writes a driver" and "Questions to an operated plant".
+It stands between `pol` and the modules. It asks for the state of the plant, also after a crash, and keeps nothing of it
+but the names of the batches that it started, in FOLDER/started: a plant that was renewed doesn't list those that are
+closed. It asks what an event would do before it gives one, so no wait gets into the history. `Module` is what you
+write; here it is simulated. docs/FORMATS.md says more: "For who writes a driver", "Questions to an operated plant".
 """
 import json
+import pathlib
 import subprocess
 import sys
 
@@ -59,7 +61,9 @@ class Pol:
     """A run of the job operate: a line in, a line out."""
 
     def __init__(self, policy, folder, program):
-        self.process = subprocess.Popen([program, "--job", "operate"], cwd=folder, stdin=subprocess.PIPE,
+        # It runs in the plant's folder, from where a place such as ./pol isn't the same.
+        place = pathlib.Path(program).resolve() if "/" in program else program
+        self.process = subprocess.Popen([place, "--job", "operate"], cwd=folder, stdin=subprocess.PIPE,
                                         stdout=subprocess.PIPE)
         self.at = self.line(policy)["kept"]
 
@@ -85,9 +89,22 @@ class Pol:
         return self.process.communicate()[0]
 
 
+class Started:
+    """The names of the batches that were started, each a line of a file."""
+
+    def __init__(self, path):
+        self.path, self.names = path, set(path.read_text().split()) if path.exists() else set()
+
+    def note(self, name):
+        if name not in self.names:
+            self.names.add(name)
+            with open(self.path, "a") as file:
+                print(name, file=file)
+
+
 class Driver:
-    def __init__(self, site, modules, by, pol):
-        self.site, self.modules, self.by, self.pol = site, modules, by, pol
+    def __init__(self, site, modules, by, pol, started):
+        self.site, self.modules, self.by, self.pol, self.started = site, modules, by, pol, started
         stands = pol.ask("plant")
         self.send_again(stands)
         there = [module["tag"] for module in stands["modules"]]
@@ -144,17 +161,23 @@ class Driver:
                 self.pol.tell(kind, tag=module.tag, **fields)
                 module.unread.pop(0)
         outcomes = {each["batch"]: each["outcome"] for each in self.pol.ask("plant")["batches"]}
-        for batch in self.site["batches"]:
-            outcome = outcomes.get(batch["batch"])
-            if outcome == "Running" or outcome is None and self.gives("start", by=self.by, **batch):
-                while self.gives("advance", batch=batch["batch"]):
-                    pass
-        return any(outcomes.get(batch["batch"]) in (None, "Running") for batch in self.site["batches"])
+        for name in outcomes:
+            self.started.note(name)
+        left = [batch for batch in self.site["batches"]
+                if batch["batch"] not in self.started.names or outcomes.get(batch["batch"]) == "Running"]
+        for batch in left:
+            name = batch["batch"]
+            if name not in self.started.names and self.gives("start", by=self.by, **batch):
+                self.started.note(name)
+            while name in self.started.names and self.gives("advance", batch=name):
+                pass
+        return bool(left)
 
 
 def main(site, policy, folder, by, program="./pol"):
     site, policy = (json.load(open(path)) for path in (site, policy))
-    driver = Driver(site, {each["tag"]: Module(**each) for each in site["modules"]}, by, Pol(policy, folder, program))
+    modules = {each["tag"]: Module(**each) for each in site["modules"]}
+    driver = Driver(site, modules, by, Pol(policy, folder, program), Started(pathlib.Path(folder) / "started"))
     while driver.go_on():
         pass
     print(driver.pol.close().decode(), end="")
