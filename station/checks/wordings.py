@@ -18,7 +18,7 @@ CODE = re.compile(r'alarms\.set\(\([^()]*\), "(\w+)"(?: if \w+ else "(\w+)")?')
 ORDER_CODE = re.compile(r'(?:self\.stand|self\.alarm)\(order, "(\w+)"')
 # What a command may have against it that isn't written out in the code; and what else stands on top of the page.
 OTHERS = (REFUSED, "no_effect", UNANSWERED)
-MORE = ("unheld", *NEAR.values())
+MORE = ("unheld", "left", *NEAR.values())
 
 
 def entries():

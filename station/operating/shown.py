@@ -185,14 +185,20 @@ class Shown:
     # What stands still, and what happened.
 
     def still(self, batches, by):
-        """Steps that run on though their batch is held; alarms, and batches that don't move, the longest first."""
+        """Services that run on though their batch is over, and steps though theirs is held; alarms, and batches that
+        don't move, the longest first."""
         still = [{"code": "batch", "batch": batch["batch"], **each} for batch in batches for each in obstacles_of(batch)
                  if is_still(each["wait"])]
         unheld = [{"code": "unheld", "batch": batch["batch"], "since": batch["since"] or now(), **step}
                   for batch in batches for step in batch.get("unheld", [])]
         alarms = [{**alarm, "presses": {deed: self.why_not(deed, alarm, by) for deed in alarm.get("deeds", [])}}
                   for alarm in self.station.alarms.shown()]
-        return unheld + sorted([*alarms, *still], key=lambda each: each["since"])
+        return self.left() + unheld + sorted([*alarms, *still], key=lambda each: each["since"])
+
+    def left(self):
+        """The services that a batch left running when it was closed, as they were reported last."""
+        return [{"code": "left", "tag": each.tag, "service": each.service, "batch": each.batch, "since": each.at,
+                 "state": self.plant.view(each.tag, each.service)["StateCur"]} for each in self.plant.past.left.shown()]
 
     def why_not(self, deed, alarm, by):
         """Why a person may not press this at an alarm; None where the person may."""

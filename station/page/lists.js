@@ -6,7 +6,8 @@ const lists = (() => {
   const PATIENCE = 5000;
   const LOUD = new Set(["restarted"]);
   // What runs on though it should not; and what is still to come.
-  const STYLES = { unheld: "red", near_history: "warning", near_batches: "warning", near_recipes: "warning" };
+  const STYLES = { left: "red", unheld: "red", near_history: "warning", near_batches: "warning",
+    near_recipes: "warning" };
   const isStill = (each, now) => each.code !== "batch" || each.wait.wait !== "InState" || now - each.since > PATIENCE;
   // The states by which a service may have gone unseen.
   const way = each => (each.way?.length ? ` ${words.say("statesBetween", each.way.map(words.state).join(", "))}` : "");

@@ -131,6 +131,14 @@ const ownWords = {
     + "stopped",
     "Das Halten erreicht seinen Dienst nicht ({0.by}): nachsehen. Er kann von Hand gehalten oder die "
     + "Charge gestoppt werden", "64db837e"],
+  alarm_left: ["{0.service} of {0.tag} is in {0.state:state}, and batch {0.batch} that ran it is closed: "
+    + "nothing steers it any more",
+    "{0.service} an {0.tag} ist in {0.state:state}, und Charge {0.batch}, die ihn führte, ist geschlossen: nichts "
+    + "steuert ihn mehr", "3810183c"],
+  look_left: ["Go and look. Put it into Operator, at its module below, and stop it by hand, or let it end. This goes "
+    + "once it reports Idle, Completed, Stopped or Aborted",
+    "Nachsehen. Ihn bei seinem Modul unten auf Operator stellen und von Hand stoppen, oder ihn enden lassen. Dies "
+    + "geht, sobald er Idle, Completed, Stopped oder Aborted meldet", "131597e6"],
   alarm_near_history: ["The history is nine tenths full", "Die Historie ist zu neun Zehnteln voll", "87ff4341"],
   look_near_history: ["Renew the file: once it is full no batch can even be stopped",
     "Die Datei erneuern: ist sie voll, kann keine Charge auch nur gestoppt werden", "7a29de8d"],
