@@ -146,6 +146,25 @@ class Operated(unittest.TestCase):
             plant.until_state("DOS2", "dose", state)
         self.choose("DOS2", "dose", "Automatic")
 
+    def test_each_command_by_hand_that_is_closed_says_why(self):
+        """As it is answered, for each person, and anew once the service is in another mode."""
+        plant, words = self.plant, (("Automatic", "ModeForbids"), ("Operator", "StateForbids"), ("Automatic", "ModeForbids"))
+        for number, (word, rule) in enumerate(words):
+            if number:
+                self.choose("DOS2", "dose", word)
+            for by in (LEAD, SHIFT, "eve"):
+                service = plant.live(by).service("DOS2", "dose")
+                for code in COMMANDS.values():
+                    whys = [answer for mask, answer in service["whys"] if mask & code]
+                    self.assertEqual(len(whys), not service["may"] & code, (by, code))
+                    if whys:
+                        self.assertEqual(plant.do("desk", by=by, tag="DOS2", service="dose", command=code), *whys)
+            rules = [answer.get("rule") for _, answer in plant.live().service("DOS2", "dose")["whys"]]
+            self.assertEqual(rules[0], rule)
+        drain = plant.live(SHIFT).service("MIX1", "drain")["whys"]
+        self.assertEqual(drain, [[sum(COMMANDS.values()), {"denied": True, "policy": "shift-never-drains"}]])
+        self.assertEqual(plant.live("").service("DOS2", "dose")["whys"], [[sum(COMMANDS.values()), {"station": "nobody"}]])
+
     def test_each_press_is_open_exactly_where_pol_would_do_it(self):
         """What a deed is answered is what the page said beforehand, for each person."""
         plant = self.plant

@@ -1,5 +1,5 @@
-"""The services that a closed batch left running. Nothing takes them along any more and no wait tells of them, so a person
-has to go and look, until each is at rest again or its module isn't there any more."""
+"""The services that a closed batch left running. Nothing takes them along any more and no wait tells of them, so a
+person has to go and look, until each is at rest again or its module isn't there any more."""
 import dataclasses
 
 from adapters.codes import COMMANDS, STATE_NAMES
@@ -8,8 +8,8 @@ from simulation.machine import AT_REST
 
 @dataclasses.dataclass(frozen=True)
 class Left:
-    """A service that a batch left when it was closed, at this stamp. One that was at rest and had just been told to start
-    `has_begun` only once a report says so."""
+    """A service that a batch left when it was closed, at this stamp. One that was at rest and had just been told to
+    start `has_begun` only once a report says so."""
     tag: str
     service: str
     batch: str
