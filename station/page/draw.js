@@ -95,11 +95,12 @@ const draw = (() => {
     return `${words.answer(why)}${rule ? `: ${rule.remedy}` : ""}`;
   }
   // A button for a deed. It is enabled where nothing stands against it; a deed that is `sure` wants a second press.
-  function button(text, deed, why = null, { loud = false, sure = false } = {}) {
+  // Its tip says why it is closed, or else, where that is known, what it does.
+  function button(text, deed, why = null, { loud = false, sure = false, tip = null } = {}) {
     const asked = JSON.stringify(deed);
     const styles = [loud ? "loud" : "", armed.deed === asked ? "sure" : ""].join(" ").trim();
     return make("button", { type: "button", "data-key": asked, "data-deed": asked, class: styles || null,
-      disabled: why !== null, title: why === null ? null : reason(why), "data-sure": sure }, text);
+      disabled: why !== null, title: why !== null ? reason(why) : tip && words.say(tip), "data-sure": sure }, text);
   }
   const faint = (...within) => make("span", { class: "faint" }, ...within);
   return { make, kept, fill, into, button, faint, reason, armed };

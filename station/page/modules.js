@@ -34,7 +34,7 @@ const modules = (() => {
     return Object.entries(docs.commands).map(([code, name]) => {
       const why = service.may & Number(code) ? null : whyNot(service, Number(code));
       return button(name, { do: "desk", tag, service: service.name, command: Number(code) }, why,
-        { loud: LOUD.has(name), sure: SURE.has(name) });
+        { loud: LOUD.has(name), sure: SURE.has(name), tip: name === "Stop" ? "tip_stopByHand" : null });
     });
   }
   const buttons = all => make("div", { class: "buttons" }, ...all);

@@ -21,6 +21,8 @@ const ownWords = {
   entriesOf: ["{0} of 200,000 entries", "{0} von 200.000 Einträgen", "c5d8a70d"],
   sinceWhen: ["since {0}, for {1}", "seit {0}, also {1}", "5aaff9c7"],
   pressAgain: ["Press once more to be sure: {0}", "Zur Sicherheit noch einmal drücken: {0}", "f996c058"],
+  justMoved: ["This list moved just now, so the press wasn't taken: look, and press again",
+    "Diese Liste hat sich gerade bewegt, darum galt der Druck nicht: hinsehen und noch einmal drücken", "1f68e20c"],
   youAsked: ["You asked: {0}", "Verlangt: {0}", "92deb79f"],
   noAnswerCame: ["No answer came ({0}). Look whether it was done before you ask again.",
     "Es kam keine Antwort ({0}). Vor einem neuen Versuch nachsehen, ob es geschah.", "ae61cb4f"],
@@ -39,6 +41,7 @@ const ownWords = {
   // Batches and recipes.
   goesOn: ["goes on", "geht weiter", "d17f7dd9"],
   waitGone: ["module {tag} isn't connected", "Modul {tag} ist nicht verbunden", "8ec99d49"],
+  untilSo: ["waits until {0}, last {1}", "wartet, bis {0}, zuletzt {1}", "77f82ae3"],
   isStopping: ["is being stopped", "wird gestoppt", "5a6a56fb"],
   isHeld: ["is held", "wird gehalten", "8c3c927f"],
   isFrozen: ["is frozen", "ist eingefroren", "96c92814"],
@@ -79,6 +82,13 @@ const ownWords = {
   deed_restarted: ["The module was restarted: the step broke",
     "Das Modul wurde neu gestartet: der Schritt brach", "a71989b9"],
   deed_renew: ["Renew the file", "Datei erneuern", "c4c9a7e2"],
+  tip_stop: ["Tells each running service of the batch to stop, and closes it. At one press, since it may have to be "
+    + "quick",
+    "Heißt jeden laufenden Dienst der Charge stoppen und schließt sie. Mit einem Druck, weil es eilen kann",
+    "46290404"],
+  tip_abandon: ["Closes the batch and sends nothing: what runs goes on without it. At the second press",
+    "Schließt die Charge und sendet nichts: was läuft, läuft ohne sie weiter. Mit dem zweiten Druck", "626990f4"],
+  tip_stopByHand: ["At one press, since it may have to be quick", "Mit einem Druck, weil es eilen kann", "47f7792a"],
   // What the station answers by itself.
   station_nobody: ["choose first who is at the desk", "zuerst wählen, wer am Bedienplatz ist", "ecb5ac28"],
   station_unknown: ["the station doesn't know what is asked for {0}",
@@ -160,6 +170,17 @@ const ownWords = {
     "Die Datei der Anlage ist voll: oben „Datei erneuern“ drücken", "45314ec9"],
   // What stands still: what happened, and what to look at.
   batchWaits: ["Batch {0}: {1}", "Charge {0}: {1}", "6e71b658"],
+  lookHeld: ["“Go on” takes it up again, “Stop” ends it.",
+    "„Weitermachen“ nimmt sie wieder auf, „Stoppen“ beendet sie.", "dfa6dc6c"],
+  lookFrozen: ["It begins nothing new, and what runs goes on. “Hold” has its services hold too, “Go on” takes it up "
+    + "again, “Stop” ends it.",
+    "Sie beginnt nichts Neues, und was läuft, läuft weiter. „Halten“ lässt auch ihre Dienste halten, „Weitermachen“ "
+    + "nimmt sie wieder auf, „Stoppen“ beendet sie.", "9d41c88c"],
+  serviceOf: ["{0} of {1}", "{0} an {1}", "9fea8201"],
+  heldAlready: ["Held already: {0}.", "Schon Held: {0}.", "ac0c8171"],
+  notHeldYet: ["Not Held: {0}.", "Nicht Held: {0}.", "9793ed3a"],
+  goesOnMeanwhile: ["Meanwhile: {0}.", "Inzwischen: {0}.", "f3e12c12"],
+  noServiceRuns: ["No service runs for it.", "Kein Dienst läuft für sie.", "f55f8a2a"],
   statesBetween: ["The states between: {0}.", "Die Zustände dazwischen: {0}.", "afaa511e"],
   lookDenied: ["the policy of the site doesn't let the station take batches along: mend it, and begin anew",
     "die Richtlinie lässt die Station keine Chargen weiterführen: sie berichtigen und neu beginnen", "976757b1"],

@@ -48,6 +48,11 @@ const page = (() => {
     if (isFirst) say(words.say("pressAgain", button.textContent));
     else ask(JSON.parse(deed));
   }
+  // A press by a finger counts only where the button didn't come under it just now; a key is pressed where it stands.
+  function pressAt(button, { detail, pageX, pageY }) {
+    if (detail > 0 && steady.isFresh(button, pageX, pageY)) say(words.say("justMoved"));
+    else press(button);
+  }
   function arm(deed) {
     clearTimeout(state.armed);
     draw.armed.deed = deed;
@@ -91,6 +96,7 @@ const page = (() => {
     lists.show(state.live, now());
     since();
     charts.paintAll(state.live);
+    steady.look();
     document.body.dataset.ready = "yes";
   }
 
@@ -122,7 +128,7 @@ const page = (() => {
   }
   document.addEventListener("click", event => {
     const button = event.target.closest("button");
-    if (button?.dataset.deed && !button.disabled) press(button);
+    if (button?.dataset.deed && !button.disabled) pressAt(button, event);
     if (button?.dataset.chartOf) {
       charts.toggle(button.dataset.chartOf);
       show();
@@ -146,7 +152,7 @@ const page = (() => {
   }
   matchMedia("(prefers-color-scheme: dark)").addEventListener("change", repaint);
   addEventListener("resize", repaint);
-  setInterval(() => { link(); since(); if (state.live) lists.show(state.live, now()); since(); }, BEAT);
+  setInterval(() => { link(); since(); if (state.live) lists.show(state.live, now()); since(); steady.look(); }, BEAT);
   setInterval(trends.ask, TRENDS);
   paint.repaint();
   language(localStorage.german === undefined ? navigator.language.startsWith("de") : localStorage.german === "yes");
