@@ -181,13 +181,15 @@ class Pages(unittest.TestCase):
                            (as_deed(do="desk", tag="DOS2", service="dose", command=32), "wait for another state"),
                            (as_deed(do="abandon", batch="looked"), "doesn't let the person at the desk do this"),
                            (as_deed(do="hold", batch="looked"), "“Go on” ends that"),
-                           (as_deed(do="stop", batch="looked"), "At one press")):
+                           (as_deed(do="stop", batch="looked"), "at one press")):
             self.assertIn(said, self.page.run(f"{self.page.at(deed)}.title"))
 
     def test_a_press_on_what_came_under_the_finger_just_now(self):
         """It isn't taken: the row of another batch stands there now. It is once it stood there for a moment."""
         page = self.page
-        page.run("""(() => { const { live } = page.state, presses = { hold: null, freeze: null, thaw: null, stop: null,
+        page.run("""(() => { const own = window.fetch, answer = { done: true };
+            window.fetch = (url, ...more) => url === 'do' ? { ok: true, json: () => answer } : own(url, ...more);
+            const { live } = page.state, presses = { hold: null, freeze: null, thaw: null, stop: null,
               abandon: null };
             const rest = { recipe: 'refill', bind: {}, watch: {}, hold: null, wait: null, waits: [], steps: [], presses,
               stands: { steps: [], arms: [], turns: [], passed: [], isStopping: false } };
@@ -201,7 +203,7 @@ class Pages(unittest.TestCase):
         page.until(f"(own => {{ const [x, y] = {MIDDLE}; return !steady.isFresh(own, x + scrollX, y + scrollY); }})({stop})")
         self.assertIn("moved just now", page.run(f"page.state.live.batches.shift(); page.show(); {press}"))
         page.until(f"!{press}.includes('moved just now')")
-        page.until("document.getElementById('said').innerText.includes('NoBatch')")
+        page.until("document.getElementById('said').innerText === 'You asked: Stop: done'")
 
     def test_a_recipe_is_started_held_exchanged_and_gone_on_with_by_presses(self):
         page, plant = self.page, self.plant

@@ -82,10 +82,10 @@ const ownWords = {
   deed_restarted: ["The module was restarted: the step broke",
     "Das Modul wurde neu gestartet: der Schritt brach", "a71989b9"],
   deed_renew: ["Renew the file", "Datei erneuern", "c4c9a7e2"],
-  tip_stop: ["Tells each running service of the batch to stop, and closes it. At one press, since it may have to be "
-    + "quick",
-    "Heißt jeden laufenden Dienst der Charge stoppen und schließt sie. Mit einem Druck, weil es eilen kann",
-    "46290404"],
+  tip_stop: ["Stops those services of the batch that take it, and closes the batch: at one press, since it may have "
+    + "to be quick",
+    "Stoppt die Dienste der Charge, die es annehmen, und schließt die Charge: mit einem Druck, weil es eilen "
+    + "kann", "fc81b0fc"],
   tip_abandon: ["Closes the batch and sends nothing: what runs goes on without it. At the second press",
     "Schließt die Charge und sendet nichts: was läuft, läuft ohne sie weiter. Mit dem zweiten Druck", "626990f4"],
   tip_stopByHand: ["At one press, since it may have to be quick", "Mit einem Druck, weil es eilen kann", "47f7792a"],
@@ -107,10 +107,10 @@ const ownWords = {
     "ein Befehl von Hand oder einer beendeten Charge ist noch offen: erst danach sehen", "fab2eadd"],
   // Why a button is closed, and what to do: by the rule that `pol` would refuse with.
   why_denied: ["The policy doesn't let the person at the desk do this: it is for others",
-    "Die Richtlinie lässt das nicht zu für den, der am Bedienplatz ist: es ist Sache von anderen", "20874de7"],
+    "Die Richtlinie erlaubt das der Person am Bedienplatz nicht: es ist Sache von anderen", "20874de7"],
   why_deniedBy: ["The rule {0.policy} of the policy forbids this to the person at the desk: it is for others",
-    "Die Regel {0.policy} der Richtlinie verbietet das dem, der am Bedienplatz ist: es ist Sache von anderen",
-    "cfe23cd1"],
+    "Die Regel {0.policy} der Richtlinie verbietet das der Person am Bedienplatz: es ist Sache von "
+    + "anderen", "cfe23cd1"],
   why_ModeForbids: ["Only in mode Operator a service takes commands by hand: press “Put into Operator” first",
     "Nur in der Betriebsart Operator nimmt ein Dienst Befehle von Hand: zuerst „Auf Operator stellen“ drücken",
     "f5157b23"],

@@ -15,10 +15,6 @@ const page = (() => {
     clearTimeout(state.saying);
     state.saying = setTimeout(() => { by("said").hidden = true; }, SHOWN);
   }
-  function told(answer) {
-    const rule = answer.rule && words.rule(answer.rule, answer);
-    return rule ? `${words.answer(answer)}. ${words.say("remedy")}: ${rule.remedy}` : draw.reason(answer);
-  }
   async function give(deed) {
     const body = JSON.stringify({ ...deed, by: state.person });
     const given = await fetch("do", { method: "POST", headers: { "Content-Type": "application/json" }, body });
@@ -27,7 +23,7 @@ const page = (() => {
   }
   async function ask(deed) {
     try {
-      say(`${words.say("youAsked", words.say(`deed_${deed.do}`))}: ${told(await give(deed))}`);
+      say(`${words.say("youAsked", words.say(`deed_${deed.do}`))}: ${draw.reason(await give(deed))}`);
     } catch (fault) {
       say(words.say("noAnswerCame", fault.message));
     }
