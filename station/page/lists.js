@@ -13,17 +13,22 @@ const lists = (() => {
   const way = each => (each.way?.length ? ` ${words.say("statesBetween", each.way.map(words.state).join(", "))}` : "");
   // Why something stands still: what happened, and what to look at.
   function why(each, live) {
-    if (each.code !== "batch") return [heard(each), words.say(`look_${each.code}`, each) + way(each)];
-    const batch = live.batches.find(own => own.batch === each.batch);
-    return [batch ? words.say("batchWaits", each.batch, charts.waited(batch, each.wait, live)) : heard(each),
-      batch && each.wait.wait === "Frozen" ? frozen(batch) : look(each.wait)];
+    if (each.code !== "batch") return [heard(each, live), words.say(`look_${each.code}`, each) + way(each)];
+    const batch = batchOf(each, live);
+    if (!batch) return [heard(each, live), look(each.wait)];
+    return [words.say("batchWaits", each.batch, charts.waited(batch, each.wait, live)),
+      each.wait.wait === "Frozen" ? frozen(batch) : look(each.wait)];
   }
+  const batchOf = (each, live) => live.batches.find(({ batch }) => batch === each.batch);
   function look(wait) {
     return words.wait(wait.wait, wait)?.look ?? words.say("denied" in wait ? "lookDenied" : "lookGone");
   }
   // The same without values, which would be read out anew whenever they change.
-  const heard = each => (each.code === "batch" ? words.say("batchWaits", each.batch, words.answer(each.wait))
-    : words.say(`alarm_${each.code}`, each));
+  function heard(each, live) {
+    if (each.code !== "batch") return words.say(`alarm_${each.code}`, each);
+    const batch = each.wait.wait === "Frozen" && batchOf(each, live);
+    return words.say("batchWaits", each.batch, batch ? charts.waited(batch, each.wait, live) : words.answer(each.wait));
+  }
   // How a batch that is held or frozen goes on, and what its services are in meanwhile.
   function frozen({ hold, steps }) {
     const isHeld = each => words.state(each.state) === "Held";
@@ -78,7 +83,7 @@ const lists = (() => {
     const all = live.still.filter(each => isStill(each, now));
     draw.into("still-list", ...(all.length ? all.map(still(live)) : [calm("nothingStands")]));
     document.getElementById("still").classList.toggle("calm", all.length === 0);
-    hear(all.map(heard).join(". "));
+    hear(all.map(each => heard(each, live)).join(". "));
     draw.into("refused-list", ...(live.refused.length ? live.refused.map(refused) : [calm("noRefusal")]));
     draw.into("last-list", ...live.last.slice().reverse().map(last(live)));
   }
