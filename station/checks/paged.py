@@ -96,6 +96,13 @@ class Page:
         self.browser.press(*self.run(f"(own => {MIDDLE})({button})"))
         self.browser.settle()
 
+    def enter(self, **deed):
+        """Presses it by the keyboard, at once: a key needs no row that stands."""
+        button = self.at(json.dumps(deed, separators=(",", ":")))
+        self.until(f"{button} && !{button}.disabled")
+        self.run(f"{button}.focus()")
+        self.browser.key("Enter", code="Enter", windowsVirtualKeyCode=13, text="\r")
+
     def text(self, name):
         return self.run(f"document.getElementById('{name}').innerText")
 
@@ -211,7 +218,7 @@ class Pages(unittest.TestCase):
         batch, tag = recipe["batch"], recipe["assigned"]["doser"]
         page.press(**json.loads(start_of(recipe)))
         plant.until_state(tag, "dose", "Execute")
-        page.press(do="hold", batch=batch)
+        page.enter(do="hold", batch=batch)
         plant.until_state(tag, "dose", "Held")
         page.until(f"document.getElementById('still').innerText.includes('{batch}')")
         page.until("document.getElementById('still-list').innerText.includes('Held already: dose of "
