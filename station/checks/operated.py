@@ -88,6 +88,47 @@ class Operated(unittest.TestCase):
         plant.until_state("TNK1", "fill", "Idle")
         self.choose("TNK1", "fill", "Automatic")
 
+    def ask_left(self, live, batch, state):
+        """On top there is what this batch left running."""
+        first = live.told["still"][0]
+        self.assertEqual([first[key] for key in ("code", "tag", "service", "batch", "state")],
+                         ["left", "DOS1", "dose", batch, STATES[state]])
+
+    def leave_held(self, batch):
+        """A batch whose service is held."""
+        self.start(batch, "blend", doser="DOS1", mixer="MIX1")
+        self.assertEqual(self.plant.do("hold", batch=batch), DONE)
+        self.plant.until_state("DOS1", "dose", "Held")
+
+    def stop_by_hand(self):
+        """Stops what was left, and brings it back."""
+        self.assertIn("did", self.plant.do("desk", tag="DOS1", service="dose", command=COMMANDS["Stop"]))
+        self.plant.until_alarm("left", False)
+        self.plant.until_state("DOS1", "dose", "Stopped")
+        self.assertIn("did", self.plant.do("desk", tag="DOS1", service="dose", command=COMMANDS["Reset"]))
+        self.plant.until_state("DOS1", "dose", "Idle")
+        self.choose("DOS1", "dose", "Automatic")
+
+    def test_a_service_that_an_abandoned_batch_left_is_an_alarm_until_it_is_at_rest(self):
+        plant = self.plant
+        self.leave_held("deserted")
+        self.assertEqual(plant.do("abandon", batch="deserted"), {"closed": "Abandoned"})
+        self.ask_left(plant.until_alarm("left"), "deserted", "Held")
+        plant.kill()
+        plant.up()
+        self.ask_left(plant.until_ready(), "deserted", "Held")
+        self.choose("DOS1", "dose", "Operator")
+        self.assertIn("did", plant.do("desk", tag="DOS1", service="dose", command=COMMANDS["Unhold"]))
+        self.ask_left(plant.until_state("DOS1", "dose", "Execute"), "deserted", "Execute")
+        self.stop_by_hand()
+
+    def test_a_service_that_a_stop_does_not_reach_is_an_alarm(self):
+        self.leave_held("unstopped")
+        self.choose("DOS1", "dose", "Operator")
+        self.plant.do("stop", batch="unstopped")
+        self.ask_left(self.plant.until_closed("unstopped", "Stopped"), "unstopped", "Held")
+        self.stop_by_hand()
+
     def test_commands_by_hand_are_those_of_the_mask(self):
         plant = self.plant
         self.assertEqual(plant.live().service("DOS2", "dose")["may"], 0)
@@ -104,6 +145,25 @@ class Operated(unittest.TestCase):
             self.assertIn("did", plant.do("desk", by=SHIFT, tag="DOS2", service="dose", command=COMMANDS[name]))
             plant.until_state("DOS2", "dose", state)
         self.choose("DOS2", "dose", "Automatic")
+
+    def test_each_command_by_hand_that_is_closed_says_why(self):
+        """As it is answered, for each person, and anew once the service is in another mode."""
+        plant, words = self.plant, (("Automatic", "ModeForbids"), ("Operator", "StateForbids"), ("Automatic", "ModeForbids"))
+        for number, (word, rule) in enumerate(words):
+            if number:
+                self.choose("DOS2", "dose", word)
+            for by in (LEAD, SHIFT, "eve"):
+                service = plant.live(by).service("DOS2", "dose")
+                for code in COMMANDS.values():
+                    whys = [answer for mask, answer in service["whys"] if mask & code]
+                    self.assertEqual(len(whys), not service["may"] & code, (by, code))
+                    if whys:
+                        self.assertEqual(plant.do("desk", by=by, tag="DOS2", service="dose", command=code), *whys)
+            rules = [answer.get("rule") for _, answer in plant.live().service("DOS2", "dose")["whys"]]
+            self.assertEqual(rules[0], rule)
+        drain = plant.live(SHIFT).service("MIX1", "drain")["whys"]
+        self.assertEqual(drain, [[sum(COMMANDS.values()), {"denied": True, "policy": "shift-never-drains"}]])
+        self.assertEqual(plant.live("").service("DOS2", "dose")["whys"], [[sum(COMMANDS.values()), {"station": "nobody"}]])
 
     def test_each_press_is_open_exactly_where_pol_would_do_it(self):
         """What a deed is answered is what the page said beforehand, for each person."""

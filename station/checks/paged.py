@@ -24,6 +24,8 @@ FIELDS = """[...document.querySelectorAll('[data-key^="recipe "]')].filter(each 
     JSON.stringify(JSON.parse(each.querySelector('button').dataset.deed).tags) !== JSON.stringify(
     Object.fromEntries([...each.querySelectorAll('select')].map(own => [own.dataset.role, own.value]))))
     .map(each => each.dataset.key)"""
+# The middle of a button, in the window.
+MIDDLE = "(box => [box.x + box.width / 2, box.y + box.height / 2])(own.getBoundingClientRect())"
 WIDE, NARROW, TALL = 1280, 390, 1400
 # Whether a line over time is there and has some of a colour in it.
 DRAWN = """(() => { const canvas = %s?.querySelector('canvas'); if (!canvas) return false;
@@ -79,14 +81,27 @@ class Page:
                 f".find(each => each.dataset.deed === {json.dumps(deed)})")
 
     def press(self, presses=1, **deed):
-        """Presses the button of a deed as a hand would, once it is enabled."""
+        """Presses the button of a deed as a hand would, once it is enabled; once more where it moved just then."""
         button = self.at(json.dumps(deed, separators=(",", ":")))
         self.until(f"{button} && !{button}.disabled")
         for _ in range(presses):
-            self.run(f"{button}.scrollIntoView({{ block: 'center' }})")
-            self.browser.press(*self.run(f"""(() => {{ const box = {button}.getBoundingClientRect();
-                return [box.x + box.width / 2, box.y + box.height / 2]; }})()"""))
-            self.browser.settle()
+            self.press_one(button)
+            while "moved just now" in self.text("said"):
+                self.press_one(button)
+
+    def press_one(self, button):
+        self.run(f"{button}.scrollIntoView({{ block: 'center' }}); document.getElementById('said').textContent = ''")
+        self.until(f"{button} && !(own => {{ const [x, y] = {MIDDLE}; return steady.isFresh(own, x + scrollX, y + scrollY);"
+                   f" }})({button})")
+        self.browser.press(*self.run(f"(own => {MIDDLE})({button})"))
+        self.browser.settle()
+
+    def enter(self, **deed):
+        """Presses it by the keyboard, at once: a key needs no row that stands."""
+        button = self.at(json.dumps(deed, separators=(",", ":")))
+        self.until(f"{button} && !{button}.disabled")
+        self.run(f"{button}.focus()")
+        self.browser.key("Enter", code="Enter", windowsVirtualKeyCode=13, text="\r")
 
     def text(self, name):
         return self.run(f"document.getElementById('{name}').innerText")
@@ -157,6 +172,7 @@ class Pages(unittest.TestCase):
             self.page.choose(by)
             counts[by] = self.ask_buttons(by)
         self.assertGreater(counts[LEAD], counts[SHIFT])
+        self.ask_tips()
         self.page.choose("")
         self.page.until("page.state.live.by === '' && [...document.querySelectorAll('button[data-deed]')]"
                         ".every(each => each.disabled)")
@@ -165,16 +181,49 @@ class Pages(unittest.TestCase):
         self.plant.do("thaw", batch="looked")
         self.plant.until_closed("looked")
 
+    def ask_tips(self):
+        """What closed buttons say: why, and what to do. So it is for ann, while a batch is held."""
+        for deed, said in ((as_deed(do="desk", tag="MIX1", service="stir", command=4), "press “Put into Operator” first"),
+                           (as_deed(do="desk", tag="MIX1", service="drain", command=4), "shift-never-drains"),
+                           (as_deed(do="desk", tag="DOS2", service="dose", command=32), "wait for another state"),
+                           (as_deed(do="abandon", batch="looked"), "doesn't let the person at the desk do this"),
+                           (as_deed(do="hold", batch="looked"), "“Go on” ends that"),
+                           (as_deed(do="stop", batch="looked"), "at one press")):
+            self.assertIn(said, self.page.run(f"{self.page.at(deed)}.title"))
+
+    def test_a_press_on_what_came_under_the_finger_just_now(self):
+        """It isn't taken: the row of another batch stands there now. It is once it stood there for a moment."""
+        page = self.page
+        page.run("""(() => { const own = window.fetch, answer = { done: true };
+            window.fetch = (url, ...more) => url === 'do' ? { ok: true, json: () => answer } : own(url, ...more);
+            const { live } = page.state, presses = { hold: null, freeze: null, thaw: null, stop: null,
+              abandon: null };
+            const rest = { recipe: 'refill', bind: {}, watch: {}, hold: null, wait: null, waits: [], steps: [], presses,
+              stands: { steps: [], arms: [], turns: [], passed: [], isStopping: false } };
+            page.state.stream.close();
+            live.batches = ['one', 'two'].map(batch => ({ ...rest, batch })); page.show(); })()""")
+        at = "[...document.querySelectorAll('[data-deed]')].find(each => each.dataset.deed === '%s')"
+        stop = at % as_deed(do="stop", batch="two")
+        press = f"""(own => {{ const [clientX, clientY] = {MIDDLE};
+            own.dispatchEvent(new MouseEvent('click', {{ bubbles: true, detail: 1, clientX, clientY }}));
+            return document.getElementById('said').innerText; }})({stop})"""
+        page.until(f"(own => {{ const [x, y] = {MIDDLE}; return !steady.isFresh(own, x + scrollX, y + scrollY); }})({stop})")
+        self.assertIn("moved just now", page.run(f"page.state.live.batches.shift(); page.show(); {press}"))
+        page.until(f"!{press}.includes('moved just now')")
+        page.until("document.getElementById('said').innerText === 'You asked: Stop: done'")
+
     def test_a_recipe_is_started_held_exchanged_and_gone_on_with_by_presses(self):
         page, plant = self.page, self.plant
         recipe = plant.live().recipe("blend")
         batch, tag = recipe["batch"], recipe["assigned"]["doser"]
         page.press(**json.loads(start_of(recipe)))
         plant.until_state(tag, "dose", "Execute")
-        page.press(do="hold", batch=batch)
+        page.enter(do="hold", batch=batch)
         plant.until_state(tag, "dose", "Held")
         page.until(f"document.getElementById('still').innerText.includes('{batch}')")
-        self.assertIn("frozen", page.text("still-list"))
+        page.until("document.getElementById('still-list').innerText.includes('Held already: dose of "
+                   f"{tag}.')")
+        self.assertIn(f"Batch {batch}: is held", page.text("still-list"))
         page.press(do="exchange_begin", tag="MIX1")
         self.pick("select[data-tag=MIX1]", "mixer-2.2.mtp")
         page.press(do="exchange_end", tag="MIX1", package="mixer-2.2.mtp")
@@ -318,10 +367,11 @@ class Pages(unittest.TestCase):
               { node: 4, wait: { wait: 'Away', tag: 'DOS1' }, since }];
             const step = { code: 'unheld', batch: 'branched', step: 'stir', tag: 'MIX1', by: 'ModeForbids', since };
             const near = { code: 'near_history', since, deeds: ['renew'], presses: { renew: null } };
-            live.still = [step, near, { code: 'batch', batch: 'branched', ...batch.waits[1] }];
+            live.still = [step, near, ...batch.waits.map(each => ({ code: 'batch', batch: 'branched', ...each }))];
             page.state.stream.close(); page.show(); })()""")
         text = page.text("still-list")
-        for said in ("step stir at MIX1 runs on", "The history is nine tenths full", "Batch branched: waits: "):
+        for said in ("step stir at MIX1 runs on", "The history is nine tenths full", "Batch branched: waits: ",
+                     "Batch branched: waits until mixer."):
             self.assertIn(said, text)
         self.assertEqual(page.run("document.querySelector('.alarm.red').innerText.includes('ModeForbids')"), True)
         self.assertTrue(page.run("[...document.querySelectorAll('#still button')].some(each => !each.disabled"

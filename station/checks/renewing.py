@@ -84,6 +84,25 @@ class Renewing(unittest.TestCase):
         live = plant.until_ready()
         self.assertEqual((live.told["absent"], len(live.told["modules"])), ([], 4))
 
+    def test_what_a_batch_left_running_is_known_in_a_renewed_file(self):
+        """Also after a restart; where it came to rest meanwhile it isn't."""
+        plant = self.plant
+        self.assertEqual(plant.start("b1", "blend", doser="DOS1", mixer="MIX1"), DONE)
+        self.assertEqual(plant.do("hold", batch="b1"), DONE)
+        plant.until_state("DOS1", "dose", "Held")
+        self.assertEqual(plant.do("abandon", batch="b1"), {"closed": "Abandoned"})
+        self.renew()
+        plant.until_alarm("left")
+        plant.kill()
+        plant.up()
+        self.assertEqual(plant.until_ready().alarms()["left"]["batch"], "b1")
+        self.assertEqual(plant.do("unplug", tag="DOS1"), DONE)
+        plant.until_alarm("left", False)
+        plant.kill()
+        plant.up()
+        self.assertEqual(plant.do("plug", tag="DOS1", package="doser.mtp"), DONE)
+        self.assertNotIn("left", plant.until_ready().alarms())
+
     def test_a_module_that_is_away_comes_back_into_the_renewed_file(self):
         plant = self.plant
         self.run_one("b1")

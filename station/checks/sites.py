@@ -254,7 +254,7 @@ class Small(unittest.TestCase):
         step = {"step": "s1", "role": "A", "service": "dose", "procedure": 1, "settings": [{"name": "amount", "value": 5}]}
         did = {"do": "start", "step": "s1", "tag": "M", "service": "dose", "procedure": 1}
         past = Past([{"event": {"ev": "recipe", "at": 1, "recipe": "one", "chart": step}, "answer": DONE},
-                     {"event": {"ev": "start", "at": 2, "batch": "b", "recipe": "one"}, "answer": DONE},
+                     {"event": {"ev": "start", "at": 2, "batch": "b", "recipe": "one", "bind": {"A": "M"}}, "answer": DONE},
                      {"event": {"ev": "advance", "at": 3, "batch": "b"}, "answer": {"did": did}}])
         self.assertEqual(past.given["M", "dose"].settings, (("amount", 5),))
         self.assertEqual(past.standings["b"].active, {"s1": "start"})

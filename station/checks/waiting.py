@@ -11,9 +11,10 @@ from adapters.codes import STATES
 from adapters.told import Value
 from adapters.turns import Turns
 from checks.broker import PATIENCE
-from checks.stand_ins import KEY, TAG, Parts, fields
+from checks.stand_ins import KEY, SERVICE, TAG, Parts, fields
 from operating import values
 from operating.late import Late
+from operating.past import Past
 from operating.server import Pages
 from operating.values import Values
 
@@ -71,6 +72,73 @@ class Batches(unittest.TestCase):
     def test_what_the_policy_denies_is_shown_as_a_wait(self):
         self.assertEqual(self.go({"denied": True}), [])
         self.assertEqual(self.batches.waits["b"].answer, {"denied": True})
+
+
+class LeftRunning(unittest.TestCase):
+    """What the past has of services that a closed batch left running."""
+
+    def setUp(self):
+        chart = {"step": "s", "role": "A", "service": SERVICE, "procedure": 1}
+        self.past = Past([])
+        self.take({"ev": "recipe", "recipe": "one", "roles": [], "chart": chart}, state="Idle")
+        self.take({"ev": "start", "batch": "b", "recipe": "one", "bind": {"A": TAG}})
+        self.take({"ev": "advance", "batch": "b"}, START)
+
+    def take(self, event, answer=None, state=None):
+        self.past.take({"at": 1, **event}, answer or {"done": True}, None)
+        if state:
+            self.past.take({"ev": "report", "at": 2, "tag": TAG, "service": SERVICE, **fields(state)}, {"done": True}, None)
+
+    def left(self, *states):
+        """What is left running once these states were reported, and then the batch was abandoned."""
+        for state in states:
+            self.take({"ev": "none"}, state=state)
+        self.take({"ev": "abandon", "batch": "b"}, {"closed": "Abandoned"})
+        return self.runs()
+
+    def runs(self):
+        return [(each.tag, each.service, each.batch) for each in self.past.left.shown()]
+
+    def test_what_runs_is_left_until_it_is_at_rest(self):
+        self.assertEqual(self.left("Starting", "Execute"), [(*KEY, "b")])
+        self.take({"ev": "none"}, state="Completing")
+        self.assertEqual(self.runs(), [(*KEY, "b")])
+        self.take({"ev": "none"}, state="Completed")
+        self.assertEqual(self.runs(), [])
+
+    def test_what_is_at_rest_is_not_left(self):
+        self.assertEqual(self.left("Starting", "Execute", "Completing", "Completed"), [])
+        self.take({"ev": "none"}, state="Resetting")
+        self.assertEqual(self.runs(), [])
+
+    def test_a_start_that_was_on_its_way_shows_once_it_had_its_effect(self):
+        self.assertEqual(self.left(), [])
+        self.take({"ev": "none"}, state="Idle")
+        self.take({"ev": "none"}, state="Starting")
+        self.assertEqual(self.runs(), [(*KEY, "b")])
+
+    def test_what_somebody_else_starts_was_not_left(self):
+        for event, answer in (({"ev": "start", "batch": "c", "recipe": "one", "bind": {"A": TAG}}, None), (
+                {"ev": "desk"}, {"did": {"do": "asked", "command": 4, "tag": TAG, "service": SERVICE}})):
+            self.setUp()
+            self.left()
+            self.take(event, answer, state="Starting")
+            self.assertEqual(self.runs(), [])
+
+    def test_a_module_that_is_unplugged_leaves_nothing(self):
+        self.left("Starting", "Execute")
+        self.past.descriptions[TAG] = {}
+        self.take({"ev": "unplug", "tag": TAG})
+        self.assertEqual(self.runs(), [])
+
+    def test_what_an_earlier_file_told(self):
+        self.left("Starting", "Execute")
+        known = dict(self.past.left.known)
+        for state, wanted in (("Execute", [(*KEY, "b")]), ("Idle", [])):
+            self.past = Past([])
+            self.take({"ev": "none"}, state=state)
+            self.past.remember(set(), 0, known)
+            self.assertEqual(self.runs(), wanted)
 
 
 class Told(unittest.TestCase):

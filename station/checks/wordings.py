@@ -18,7 +18,10 @@ CODE = re.compile(r'alarms\.set\(\([^()]*\), "(\w+)"(?: if \w+ else "(\w+)")?')
 ORDER_CODE = re.compile(r'(?:self\.stand|self\.alarm)\(order, "(\w+)"')
 # What a command may have against it that isn't written out in the code; and what else stands on top of the page.
 OTHERS = (REFUSED, "no_effect", UNANSWERED)
-MORE = ("unheld", *NEAR.values())
+# The events that buttons ask for, and what these buttons never run into.
+BUTTONS = ("freeze", "thaw", "stop", "abandon", "desk", "start", "unplug", "exchange_begin")
+NEVER_ASKED = {"NoBatch", "NoService", "NoRecipe", "BatchKnown", "RoleUnknown", "WatchedStep", "WrongType"}
+MORE = ("unheld", "left", *NEAR.values())
 
 
 def entries():
@@ -74,6 +77,17 @@ class Words(unittest.TestCase):
         deeds = re.search(r"known = \{(.*?)\}\n", (STATION / "operating" / "deeds.py").read_text(), re.S)[1]
         named = {*re.findall(r'"(\w+)": self', deeds), *BATCH_DEEDS}
         self.assertEqual({f"deed_{deed}" for deed in named} - set(entries()), set())
+
+    def test_each_rule_that_may_close_a_button_has_its_words(self):
+        """Those of the events that the page's buttons ask for; what a button never asks, such as a wrong ticket, has
+        the words of the documents."""
+        rules = re.findall(r"^    (\w+): \{$", (VIEWER / "docs.js").read_text().partition("waits: {")[0], re.M)
+        known = {key.removeprefix("why_") for key in entries() if key.startswith("why_")}
+        self.assertEqual(known - set(rules), {"denied", "deniedBy"})
+        table = (STATION.parent / "docs" / "RULES.md").read_text()
+        named = {rule for event in BUTTONS for row in re.findall(rf"^\| `{event}` \| (.*?) \|", table, re.M)
+                 for rule in re.findall(r"[A-Z]\w+", row)}
+        self.assertEqual(named - known - NEVER_ASKED, set())
 
     def test_each_alarm_that_has_words_is_one(self):
         known = {key.removeprefix("alarm_") for key in entries() if key.startswith("alarm_")}

@@ -6,6 +6,7 @@ import re
 
 from adapters.codes import COMMAND_NAMES, COMMANDS
 from operating import machine
+from operating.left import LeftRunning
 from operating.standing import Standing, nodes
 
 # What a batch's log says that sends a command, with that command.
@@ -71,9 +72,11 @@ def number_in(batch):
 
 class Past:
     """`reports` has the last two reports of each service since it was docked, the older first, `values` the last value
-    of each variable, `standings` where each open batch stands, `named` the highest number in a batch's name."""
+    of each variable, `standings` where each open batch stands, `named` the highest number in a batch's name, `left` the
+    services that closed batches left running."""
 
     def __init__(self, entries):
+        self.left, self.binds = LeftRunning(), {}
         self.recipes, self.descriptions, self.recipe_of, self.standings, self.tests_of = {}, {}, {}, {}, {}
         self.reports, self.values, self.given, self.unplugged, self.count, self.named = {}, {}, {}, set(), 0, 0
         self.last = collections.deque(maxlen=MOST_LAST)
@@ -92,7 +95,7 @@ class Past:
         if hasattr(self, f"take_{event['ev']}"):
             getattr(self, f"take_{event['ev']}")(event)
         if "closed" in answer:
-            self.close(event["batch"])
+            self.close(event["batch"], event["at"])
         return self.take_did(entry, answer["did"]) if "did" in answer else None
 
     # What each kind of event brings.
@@ -119,10 +122,12 @@ class Past:
         for known in (self.reports, self.values, self.given):
             for key in [key for key in known if key[0] == tag]:
                 del known[key]
+        self.left.docked(tag)
 
     def take_report(self, event):
         key, fields = (event["tag"], event["service"]), {name: event[name] for name in FIELDS}
         self.reports.setdefault(key, collections.deque(maxlen=2)).append(fields)
+        self.left.reported(key, fields["StateCur"])
         given = self.given.get(key)
         if given and machine.had_effect(given.code, given.before, fields["StateCur"]):
             del self.given[key]
@@ -137,11 +142,17 @@ class Past:
         self.recipe_of[event["batch"]] = event["recipe"]
         self.named = max(self.named, number_in(event["batch"]))
         self.standings[event["batch"]] = Standing(self.recipes[event["recipe"]]["chart"])
+        self.binds[event["batch"]] = event["bind"]
+        for tag in event["bind"].values():
+            self.left.others(self.left.of_module(tag))
 
-    def close(self, batch):
-        """A batch is over: what it asked for and nobody sent isn't sent any more."""
-        self.standings.pop(batch, None)
-        self.recipe_of.pop(batch, None)
+    def close(self, batch, at):
+        """A batch is over: what it asked for and nobody sent isn't sent any more. What it runs goes on without it."""
+        for key in self.unended(batch):
+            if key in self.reports:
+                self.left.closed(key, batch, at, self.reports[key][-1]["StateCur"], self.given.get(key))
+        for known in (self.standings, self.recipe_of, self.binds):
+            known.pop(batch, None)
         for key, given in list(self.given.items()):
             if given.batch == batch and not given.outlives():
                 del self.given[key]
@@ -153,6 +164,8 @@ class Past:
         if did["do"] not in SENDS and did["do"] != "asked":
             return None
         given = self.given_by(entry, did)
+        if given.is_by_hand:
+            self.left.others([(given.tag, given.service)])
         self.given[given.tag, given.service] = given
         return given
 
@@ -172,9 +185,10 @@ class Past:
 
     # A shorter file.
 
-    def remember(self, unplugged, named):
+    def remember(self, unplugged, named, left):
         """What earlier files of the plant told, and this one doesn't."""
         self.unplugged, self.named = self.unplugged | unplugged, max(self.named, named)
+        self.left.remember(left, self.reports)
 
     def renew(self, count):
         """From here on the plant has a file of so many entries. What was known of it holds on; only where an entry
@@ -191,6 +205,11 @@ class Past:
         """A step as the recipe of a batch has it."""
         chart = self.recipes[self.recipe_of[batch]]["chart"]
         return next(node for node in nodes(chart) if node.get("step") == step)
+
+    def unended(self, batch):
+        """The services that have a step of a batch that is active, or was left as it ran."""
+        steps = [self.step_of(batch, step) for step in self.standings[batch].unended()]
+        return [(self.binds[batch][step["role"]], step["service"]) for step in steps]
 
     def settings(self, batch, step):
         """What the recipe of a batch sets for a step."""

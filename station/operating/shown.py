@@ -1,8 +1,9 @@
 """All that the page shows to a person: the plant as `pol` has it, what the modules show beyond that, and each press
 with what `pol` would answer it now."""
 import itertools
+import json
 
-from adapters.codes import STATE_NAMES
+from adapters.codes import COMMANDS, STATE_NAMES
 from operating.alarms import now
 from operating.deeds import BATCH_DEEDS, DENIED, NOBODY, NOTHING
 from operating.plant import is_permitted
@@ -18,10 +19,11 @@ MOVING = ("Starting", "Execute", "Completing", "Resetting", "Unholding", "Resumi
 
 
 class Shown:
-    """Of a station. `seen` has what each batch waits for in each branch, and since when."""
+    """Of a station. `seen` has what each batch waits for in each branch, and since when; `by_hand` what commands by
+    hand were answered, for each person and service."""
 
     def __init__(self, station):
-        self.station, self.plant, self.deeds, self.seen = station, station.plant, station.deeds, {}
+        self.station, self.plant, self.deeds, self.seen, self.by_hand = station, station.plant, station.deeds, {}, {}
 
     def to(self, by):
         """All of it, as this person may see it: None for each part, and then the whole. Between parts something may
@@ -60,6 +62,7 @@ class Shown:
         modules = [each for each in modules if self.is_as_told(each)]
         docked = [{"ev": deed, "tag": each["tag"]} for each in modules for deed in DOCKED]
         answers = iter(self.presses(docked, by))
+        self.ask_by_hand([(by, each["tag"], own["name"]) for each in modules for own in each["services"] if by])
         return [{**self.module(each, by), "presses": {deed: next(answers) for deed in DOCKED}} for each in modules]
 
     def is_as_told(self, module):
@@ -79,9 +82,22 @@ class Shown:
                 "values": [self.value(tag, each, kinds, map["variables"]) for each in module["values"]],
                 "ends": self.ends(tag, by) if module["ticket"] is not None else []}
 
+    def ask_by_hand(self, keys):
+        """Asks what each command by hand would be answered, where that may have changed since it was asked: it goes by
+        what the service reported last, by its module's description, and by whether the module is away."""
+        facts = {(by, tag, service): (self.plant.view(tag, service), self.plant.past.descriptions[tag],
+                                      self.plant.module(tag)["ticket"]) for by, tag, service in keys}
+        lacking = [key for key in keys if key not in self.by_hand or self.by_hand[key][0] != facts[key]]
+        answers = iter(self.plant.would_all([
+            ({"ev": "desk", "tag": tag, "service": service, "CommandOp": code}, by)
+            for by, tag, service in lacking for code in COMMANDS.values()]))
+        for key in lacking:
+            self.by_hand[key] = facts[key], masks({code: next(answers) for code in COMMANDS.values()})
+
     def service(self, tag, service, map, by):
         since = self.station.late.since.get((tag, service["name"]))
-        return {**service, "may": service["may"] if by else 0, "since": since[1] if since else None,
+        whys = self.by_hand[by, tag, service["name"]][1] if by else [(sum(COMMANDS.values()), NOBODY)]
+        return {**service, "may": service["may"] if by else 0, "whys": whys, "since": since[1] if since else None,
                 "label": map["services"].get(service["name"], {}).get("name", service["name"]),
                 "may_choose": bool(by) and self.deeds.may_choose(by, tag, service["name"])}
 
@@ -185,14 +201,20 @@ class Shown:
     # What stands still, and what happened.
 
     def still(self, batches, by):
-        """Steps that run on though their batch is held; alarms, and batches that don't move, the longest first."""
+        """Services that run on though their batch is over, and steps though theirs is held; alarms, and batches that
+        don't move, the longest first."""
         still = [{"code": "batch", "batch": batch["batch"], **each} for batch in batches for each in obstacles_of(batch)
                  if is_still(each["wait"])]
         unheld = [{"code": "unheld", "batch": batch["batch"], "since": batch["since"] or now(), **step}
                   for batch in batches for step in batch.get("unheld", [])]
         alarms = [{**alarm, "presses": {deed: self.why_not(deed, alarm, by) for deed in alarm.get("deeds", [])}}
                   for alarm in self.station.alarms.shown()]
-        return unheld + sorted([*alarms, *still], key=lambda each: each["since"])
+        return self.left() + unheld + sorted([*alarms, *still], key=lambda each: each["since"])
+
+    def left(self):
+        """The services that a batch left running when it was closed, as they were reported last."""
+        return [{"code": "left", "tag": each.tag, "service": each.service, "batch": each.batch, "since": each.at,
+                 "state": self.plant.view(each.tag, each.service)["StateCur"]} for each in self.plant.past.left.shown()]
 
     def why_not(self, deed, alarm, by):
         """Why a person may not press this at an alarm; None where the person may."""
@@ -215,6 +237,16 @@ class Shown:
 
     def entry(self, entry):
         return {"place": entry.place, "event": short(entry.event), "answer": entry.answer, "by": entry.by}
+
+
+def masks(answers):
+    """Of the answers to commands those that refuse, each once, with the mask of its commands."""
+    found = {}
+    for code, answer in answers.items():
+        if not is_permitted(answer):
+            key = json.dumps(answer)
+            found[key] = found.get(key, (0,))[0] | code, answer
+    return list(found.values())
 
 
 def parts_of(many):

@@ -58,6 +58,10 @@ class Standing:
         if deed == "end":
             self.passed.add(step)
 
+    def unended(self):
+        """The steps that are active, and those that were left as they ran."""
+        return [*self.active, *(step for step, each in self.steps.items() if each["phase"] == PHASES["left"])]
+
     def turn(self, number):
         """A loop turns: all in it begins anew."""
         self.turns[number] = self.turns.get(number, 0) + 1

@@ -32,7 +32,7 @@ class Station:
         self.site, self.pol, self.turns, self.changed = site, pol, turns, changed
         self.packages, self.denied, self.others = {}, [], {}
         self.notes, self.alarms = Notes(site.folder), Alarms(changed)
-        self.plant = Plant(pol, self.deny, lambda given: self.commands.give(given), changed)
+        self.plant = Plant(pol, self.deny, lambda given: self.commands.give(given), self.told)
         self.commands = Commands(turns, self.plant, self.alarms, self.notes)
         self.batches = Batches(turns, self.plant, lambda tag: tag in self.commands.lives, self.commands.closed)
         self.reports = Reports(turns, self.plant, self.alarms, self.commands, self.batches, self.notes)
@@ -46,8 +46,9 @@ class Station:
     def begin(self):
         """Goes on where the history stands: modules and recipes of the site that `pol` doesn't have are told it, and
         the commands behind which no report came are taken up."""
-        self.plant.past.remember(self.notes.unplugged, self.notes.named)
+        self.plant.past.remember(self.notes.unplugged, self.notes.named, self.notes.left)
         self.notes.begin(self.plant.past.given.values())
+        self.told()
         self.commands.take_up(self.plant.past.given.values())
         for tag in self.site.modules:
             if self.plant.module(tag) is None and tag not in self.plant.past.unplugged:
@@ -62,6 +63,11 @@ class Station:
         self.turns.later(NOBODY_THERE, self.miss)
         self.ask_near()
         self.batches.want(self.plant.open_batches())
+
+    def told(self):
+        """The plant was told something: what a shorter file won't tell of it is noted, and the page is drawn anew."""
+        self.notes.note_left(self.plant.past.left.known)
+        self.changed()
 
     def plug(self, tag):
         answer = self.plant.tell(self.deeds.plug_event(tag, self.site.modules[tag]))

@@ -3,8 +3,12 @@
 const batches = (() => {
   const { make, kept, button, faint } = draw;
   const DEEDS = ["hold", "freeze", "thaw", "stop", "abandon"], LOUD = new Set(["stop", "abandon"]);
-  // What `pol` says of what a batch waits for, or that it goes on.
-  const waits = batch => (batch.wait ? words.answer(batch.wait) : words.say("goesOn"));
+  const TIPS = { stop: "tip_stop", abandon: "tip_abandon" };
+  // What a batch waits for, or that it goes on. That it is held or frozen is said before that.
+  function waits(batch, live) {
+    if (!batch.wait) return words.say("goesOn");
+    return batch.wait.wait === "Frozen" ? "" : charts.waited(batch, batch.wait, live);
+  }
   function standing(batch) {
     const own = [batch.stopping ? words.say("isStopping") : "",
       batch.hold === null ? "" : words.say(batch.hold ? "isHeld" : "isFrozen")];
@@ -27,10 +31,10 @@ const batches = (() => {
   }
   const batch = live => each => {
     const presses = () => DEEDS.map(deed => button(words.say(`deed_${deed}`), { do: deed, batch: each.batch },
-      each.presses[deed], { loud: LOUD.has(deed), sure: deed === "abandon" }));
+      each.presses[deed], { loud: LOUD.has(deed), sure: deed === "abandon", tip: TIPS[deed] }));
     return make("article", { class: "item", "data-key": `batch ${each.batch}` },
       make("h3", {}, make("span", {}, each.batch), faint(`${each.recipe}: ${words.played(each)}`)),
-      make("p", { class: "waits" }, standing(each) ? make("b", {}, `${standing(each)}. `) : "", waits(each), " ",
+      make("p", { class: "waits" }, standing(each) ? make("b", {}, `${standing(each)}. `) : "", waits(each, live), " ",
         each.since ? make("span", { class: "faint", "data-since": each.since }) : null),
       ...within(each, live),
       kept("deeds", each.presses, () => make("div", { class: "buttons" }, ...presses())),

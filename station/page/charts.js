@@ -52,6 +52,19 @@ const charts = (() => {
     const nodes = [...new Set([...said.keys(), ...more.keys()])].sort((one, other) => one - other);
     return nodes.map(node => ({ said: said.get(node) ?? "", more: more.get(node) ?? "" }));
   }
+  // What a batch waits for: a condition as the chart has it, with what its values were last; else as `pol` says it.
+  function waited(batch, wait, live) {
+    if (wait.wait === "Frozen") return words.say(batch.hold ? "isHeld" : "isFrozen");
+    const known = "node" in wait || wait.wait === "Unmet" ? recipeOf(batch) : null;
+    const conditions = known ? recipes.conditions(known.nodes[wait.node] ?? known.stepOf(wait.step)) : [];
+    return conditions.length ? untilSo(batch, known, conditions, historyOf(live)) : words.answer(wait);
+  }
+  function untilSo(batch, known, conditions, history) {
+    const place = stand.place(history, batchOf(batch, known), NOW, known);
+    const values = [...new Map(conditions.flatMap(place.values))];
+    const last = ([read, value]) => `${values.length > 1 ? `${read} ` : ""}${value ?? words.say("unreported")}`;
+    return words.say("untilSo", conditions.map(place.told).join(`; ${words.say("or")} `), values.map(last).join(", "));
+  }
   // By the number of its node what is told of each branch.
   function told(batch, known, history) {
     const own = batchOf(batch, known), lines = awaited.told(own, history, NOW, stand.place(history, own, NOW, known));
@@ -93,5 +106,5 @@ const charts = (() => {
     chart.draw(holder, known, placeOf(batch, known, history));
     if (!isNew) Object.assign(holder, { scrollLeft, scrollTop });
   }
-  return { parts, branches, toggle, paintAll };
+  return { parts, branches, waited, toggle, paintAll };
 })();

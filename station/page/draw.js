@@ -85,18 +85,22 @@ const draw = (() => {
     }
   }
   const into = (id, ...fresh) => fill(document.getElementById(id), fresh.filter(each => each));
-  // Why a press isn't permitted: the answer that it would get, and what that means.
+  // Why a press isn't permitted, and what to do, in the words of this page's buttons; where a rule has none here, what
+  // it would be answered, and what the documents say to do.
   function reason(why) {
-    const rule = why.rule && words.rule(why.rule, why);
     if ("station" in why) return words.say(`station_${why.station}`, why.why ?? "");
-    return `${words.answer(why)}${rule ? `: ${rule.holds}` : ""}`;
+    if ("denied" in why) return words.say(why.policy === undefined ? "why_denied" : "why_deniedBy", why);
+    const rule = why.rule && words.rule(why.rule, why), own = `why_${why.rule}`;
+    if (Object.hasOwn(ownWords, own)) return `${words.say(own, why)} (${words.visible(why.rule)})`;
+    return `${words.answer(why)}${rule ? `: ${rule.remedy}` : ""}`;
   }
   // A button for a deed. It is enabled where nothing stands against it; a deed that is `sure` wants a second press.
-  function button(text, deed, why = null, { loud = false, sure = false } = {}) {
+  // Its tip says why it is closed, or else, where that is known, what it does.
+  function button(text, deed, why = null, { loud = false, sure = false, tip = null } = {}) {
     const asked = JSON.stringify(deed);
     const styles = [loud ? "loud" : "", armed.deed === asked ? "sure" : ""].join(" ").trim();
     return make("button", { type: "button", "data-key": asked, "data-deed": asked, class: styles || null,
-      disabled: why !== null, title: why === null ? null : reason(why), "data-sure": sure }, text);
+      disabled: why !== null, title: why !== null ? reason(why) : tip && words.say(tip), "data-sure": sure }, text);
   }
   const faint = (...within) => make("span", { class: "faint" }, ...within);
   return { make, kept, fill, into, button, faint, reason, armed };

@@ -6,29 +6,53 @@ const lists = (() => {
   const PATIENCE = 5000;
   const LOUD = new Set(["restarted"]);
   // What runs on though it should not; and what is still to come.
-  const STYLES = { unheld: "red", near_history: "warning", near_batches: "warning", near_recipes: "warning" };
+  const STYLES = { left: "red", unheld: "red", near_history: "warning", near_batches: "warning",
+    near_recipes: "warning" };
   const isStill = (each, now) => each.code !== "batch" || each.wait.wait !== "InState" || now - each.since > PATIENCE;
   // The states by which a service may have gone unseen.
   const way = each => (each.way?.length ? ` ${words.say("statesBetween", each.way.map(words.state).join(", "))}` : "");
   // Why something stands still: what happened, and what to look at.
-  function why(each) {
-    if (each.code !== "batch") {
-      return [words.say(`alarm_${each.code}`, each), words.say(`look_${each.code}`, each) + way(each)];
-    }
-    const wait = words.wait(each.wait.wait, each.wait), own = "denied" in each.wait ? "lookDenied" : "lookGone";
-    return [words.say("batchWaits", each.batch, words.answer(each.wait)), wait ? wait.look : words.say(own)];
+  function why(each, live) {
+    if (each.code !== "batch") return [heard(each, live), words.say(`look_${each.code}`, each) + way(each)];
+    const batch = batchOf(each, live);
+    if (!batch) return [heard(each, live), look(each.wait)];
+    return [words.say("batchWaits", each.batch, charts.waited(batch, each.wait, live)),
+      each.wait.wait === "Frozen" ? frozen(batch) : look(each.wait)];
+  }
+  const batchOf = (each, live) => live.batches.find(({ batch }) => batch === each.batch);
+  function look(wait) {
+    return words.wait(wait.wait, wait)?.look ?? words.say("denied" in wait ? "lookDenied" : "lookGone");
+  }
+  // The same without values, which would be read out anew whenever they change.
+  function heard(each, live) {
+    if (each.code !== "batch") return words.say(`alarm_${each.code}`, each);
+    const batch = each.wait.wait === "Frozen" && batchOf(each, live);
+    return words.say("batchWaits", each.batch, batch ? charts.waited(batch, each.wait, live) : words.answer(each.wait));
+  }
+  // How a batch that is held or frozen goes on, and what its services are in meanwhile.
+  function frozen({ hold, steps }) {
+    const isHeld = each => words.state(each.state) === "Held";
+    const named = each => words.say("serviceOf", each.service, each.tag);
+    const stated = each =>
+      `${named(each)} (${each.state === null ? words.say("unreported") : words.state(each.state)})`;
+    const listed = (key, list) => (list.length ? words.say(key, list.join(", ")) : "");
+    const services = hold ? [listed("heldAlready", steps.filter(isHeld).map(named)),
+      listed("notHeldYet", steps.filter(each => !isHeld(each)).map(stated))]
+      : [listed("goesOnMeanwhile", steps.map(stated))];
+    return [words.say(hold ? "lookHeld" : "lookFrozen"), ...(steps.length ? services : [words.say("noServiceRuns")])]
+      .filter(each => each).join(" ");
   }
   const key = each => [each.code === "batch" ? "batch" : "alarm", each.batch, each.tag, each.service, each.variable,
     each.recipe, each.place, each.step, each.node, each.code].join(" ");
-  function still(each) {
-    const [what, look] = why(each);
+  const still = live => each => {
+    const [what, more] = why(each, live);
     const deeds = (each.deeds ?? []).map(deed => button(words.say(`deed_${deed}`),
       { do: deed, tag: each.tag, service: each.service }, each.presses[deed], { loud: LOUD.has(deed), sure: true }));
     return make("div", { class: `alarm ${STYLES[each.code] ?? ""}`.trim(), "data-key": key(each) },
       make("p", {}, make("b", {}, what), make("span", { class: "faint", "data-since": each.since })),
-      make("p", { class: "faint" }, look),
+      make("p", { class: "faint" }, more),
       deeds.length ? make("div", { class: "buttons", "data-key": "deeds" }, ...deeds) : null);
-  }
+  };
   // A refusal with who asked for what, and what to do about it.
   function refused({ place, event, answer, by }) {
     const rule = answer.rule && words.rule(answer.rule, answer);
@@ -57,9 +81,9 @@ const lists = (() => {
   }
   function show(live, now) {
     const all = live.still.filter(each => isStill(each, now));
-    draw.into("still-list", ...(all.length ? all.map(still) : [calm("nothingStands")]));
+    draw.into("still-list", ...(all.length ? all.map(still(live)) : [calm("nothingStands")]));
     document.getElementById("still").classList.toggle("calm", all.length === 0);
-    hear(all.map(each => why(each)[0]).join(". "));
+    hear(all.map(each => heard(each, live)).join(". "));
     draw.into("refused-list", ...(live.refused.length ? live.refused.map(refused) : [calm("noRefusal")]));
     draw.into("last-list", ...live.last.slice().reverse().map(last(live)));
   }

@@ -6,7 +6,7 @@ const modules = (() => {
     Resetting: "move", Resuming: "move", Unholding: "move", Pausing: "pause", Paused: "pause", Holding: "hold",
     Held: "hold", Stopping: "stop", Stopped: "stop", Aborting: "abort", Aborted: "abort" };
   const chosen = {};
-  const LOUD = new Set(["Stop", "Abort"]), SURE = new Set(["Abort"]), NOT_HIS = { denied: true };
+  const LOUD = new Set(["Stop", "Abort"]), SURE = new Set(["Abort"]);
   // A value as it is read: with its unit, or by its text where it has one.
   function value(each) {
     const holds = each.value !== null;
@@ -19,18 +19,22 @@ const modules = (() => {
   const style = name => STYLES[name] ?? "unreported";
   const state = code => make("span", { class: `state ${style(words.state(code))}` }, words.state(code));
   // The modes and sources into which the person may put a service.
+  const whyNoMode = ({ may_choose: mayChoose }) => (mayChoose ? null : page.state.live.by ? { denied: true }
+    : { station: "nobody" });
   function choices(tag, service) {
-    const { Mode, Src } = service.view, why = service.may_choose ? null : NOT_HIS;
+    const { Mode, Src } = service.view, why = whyNoMode(service);
     const isInternal = Mode === "Automatic" && Src === "Internal";
     const own = [Mode === "Operator" ? "Automatic" : "Operator", ...(isInternal ? ["External"] : [])];
     return own.map(word => button(words.say("putInto", word), { do: "choose", tag, service: service.name, word }, why));
   }
+  // Why the person may not give a command now, as `pol` would answer it.
+  const whyNot = ({ whys }, code) => whys.find(([mask]) => mask & code)?.[1] ?? { station: "not_now" };
   // The commands, each enabled where its bit is in the mask that `pol` gives for this person.
   function commands(tag, service) {
     return Object.entries(docs.commands).map(([code, name]) => {
-      const why = service.may & Number(code) ? null : { refused: 0, rule: words.say("notNow") };
+      const why = service.may & Number(code) ? null : whyNot(service, Number(code));
       return button(name, { do: "desk", tag, service: service.name, command: Number(code) }, why,
-        { loud: LOUD.has(name), sure: SURE.has(name) });
+        { loud: LOUD.has(name), sure: SURE.has(name), tip: name === "Stop" ? "tip_stopByHand" : null });
     });
   }
   const buttons = all => make("div", { class: "buttons" }, ...all);
@@ -39,8 +43,8 @@ const modules = (() => {
     return make("div", { class: "service", "data-key": `service ${each.name}` },
       make("div", { class: "head" }, make("b", {}, words.visible(each.label)),
         view ? state(view.StateCur) : make("span", { class: "state" }, words.say("unreported")), faint(mode)),
-      view ? kept("modes", [view.Mode, view.Src, each.may_choose], () => buttons(choices(tag, each))) : null,
-      kept("commands", each.may, () => buttons(commands(tag, each))));
+      view ? kept("modes", [view.Mode, view.Src, whyNoMode(each)], () => buttons(choices(tag, each))) : null,
+      kept("commands", [each.may, each.whys], () => buttons(commands(tag, each))));
   }
   // Who has a module, or that it is away.
   function whose(module) {

@@ -15,10 +15,6 @@ const page = (() => {
     clearTimeout(state.saying);
     state.saying = setTimeout(() => { by("said").hidden = true; }, SHOWN);
   }
-  function told(answer) {
-    const rule = answer.rule && words.rule(answer.rule, answer);
-    return rule ? `${words.answer(answer)}. ${words.say("remedy")}: ${rule.remedy}` : draw.reason(answer);
-  }
   async function give(deed) {
     const body = JSON.stringify({ ...deed, by: state.person });
     const given = await fetch("do", { method: "POST", headers: { "Content-Type": "application/json" }, body });
@@ -27,7 +23,7 @@ const page = (() => {
   }
   async function ask(deed) {
     try {
-      say(`${words.say("youAsked", words.say(`deed_${deed.do}`))}: ${told(await give(deed))}`);
+      say(`${words.say("youAsked", words.say(`deed_${deed.do}`))}: ${draw.reason(await give(deed))}`);
     } catch (fault) {
       say(words.say("noAnswerCame", fault.message));
     }
@@ -47,6 +43,11 @@ const page = (() => {
     arm(isFirst ? deed : null);
     if (isFirst) say(words.say("pressAgain", button.textContent));
     else ask(JSON.parse(deed));
+  }
+  // A press by a finger counts only where the button didn't come under it just now; a key is pressed where it stands.
+  function pressAt(button, { detail, pageX, pageY }) {
+    if (detail > 0 && steady.isFresh(button, pageX, pageY)) say(words.say("justMoved"));
+    else press(button);
   }
   function arm(deed) {
     clearTimeout(state.armed);
@@ -91,6 +92,7 @@ const page = (() => {
     lists.show(state.live, now());
     since();
     charts.paintAll(state.live);
+    steady.look();
     document.body.dataset.ready = "yes";
   }
 
@@ -122,7 +124,7 @@ const page = (() => {
   }
   document.addEventListener("click", event => {
     const button = event.target.closest("button");
-    if (button?.dataset.deed && !button.disabled) press(button);
+    if (button?.dataset.deed && !button.disabled) pressAt(button, event);
     if (button?.dataset.chartOf) {
       charts.toggle(button.dataset.chartOf);
       show();
@@ -146,7 +148,7 @@ const page = (() => {
   }
   matchMedia("(prefers-color-scheme: dark)").addEventListener("change", repaint);
   addEventListener("resize", repaint);
-  setInterval(() => { link(); since(); if (state.live) lists.show(state.live, now()); since(); }, BEAT);
+  setInterval(() => { link(); since(); if (state.live) lists.show(state.live, now()); since(); steady.look(); }, BEAT);
   setInterval(trends.ask, TRENDS);
   paint.repaint();
   language(localStorage.german === undefined ? navigator.language.startsWith("de") : localStorage.german === "yes");
