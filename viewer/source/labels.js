@@ -8,11 +8,11 @@ const labels = {
   print: ["Print", "Drucken"], printSheet: ["Print the sheet to sign", "Blatt zum Unterschreiben drucken"],
   drop: ["Drop here what pol wrote", "Hier ablegen, was pol schrieb"],
   dropMore: ["The output of the job plant, or a journal with the output of the job replay, keep, guard or operate. "
-    + "The output of find, the verdict of audit or attest and the site may come along. A pol.journal is read too. "
-    + "The files stay on this machine.",
+    + "The output of find, the verdict of audit or attest and the site may come along. A pol.journal and a pol.plant "
+    + "are read too. The files stay on this machine.",
     "Die Ausgabe von plant, oder ein Journal mit der Ausgabe von replay, keep, guard oder operate. Was find sagt, "
-    + "das Urteil von audit oder attest und die Anlage dürfen dabei sein. Auch ein pol.journal wird gelesen. Die Dateien "
-    + "bleiben auf diesem Rechner."],
+    + "das Urteil von audit oder attest und die Anlage dürfen dabei sein. Auch pol.journal und pol.plant werden "
+    + "gelesen. Die Dateien bleiben auf diesem Rechner."],
   notProved: ["This page is no part of what is proved. It draws what the files say and checks nothing.",
     "Diese Seite ist kein Teil dessen, was bewiesen ist. Sie zeichnet, was die Dateien sagen, und prüft nichts."],
   batches: ["Batches", "Chargen"], modules: ["Modules", "Module"], cursor: ["At the cursor", "Am Cursor"],
@@ -66,6 +66,7 @@ const labels = {
   stopping: ["Stopping, Stopped, or asked to stop", "Stopping, Stopped, oder soll stoppen"],
   leftRunning: ["left running: go and look", "laufend verlassen: nachsehen"],
   leftIn: ["! {0} of {1} left in {2}", "! {0} von {1} in {2} verlassen"],
+  beforeItsStart: ["{0}, nothing reported since its start", "{0}, seit dem Start nichts gemeldet"],
   node: ["arm or loop decided", "Zweig oder Schleife entschieden"],
   ended: ["end of the batch", "Ende der Charge"],
   noBatch: ["No batch was started.", "Keine Charge wurde gestartet."],
@@ -185,6 +186,20 @@ const labels = {
     "{0} ist die Datei einer gespeicherten Anlage, ohne Ereignisse."],
   keptBroken: ["{0}: behind event {1}, from byte {2} on, it isn't a file that the job keep writes.",
     "{0}: hinter Ereignis {1}, ab Byte {2}, ist es keine Datei, die keep schreibt."],
+  keptOperated: ["{0} is the file of an operated plant, with {1}, begun by {2}. It has no answers and none of the "
+    + "lines that the policy denied, and this page doesn't check its sums: the job operate does.",
+    "{0} ist die Datei einer bedienten Anlage, mit {1}, begonnen von {2}. Sie hat keine Antworten und keine der "
+    + "Zeilen, die die Richtlinie verweigerte, und diese Seite prüft ihre Summen nicht: das tut operate."],
+  operatedBroken: ["{0}: behind event {1}, from byte {2} on, it isn't a file that the job operate writes.",
+    "{0}: hinter Ereignis {1}, ab Byte {2}, ist es keine Datei, die operate schreibt."],
+  noAnswersKept: ["The events are drawn as if each had been accepted. The question entries, put to the operated plant, "
+    + "gives them with their answers.",
+    "Die Ereignisse sind gezeichnet, als wäre jedes angenommen worden. Die Frage entries an die bediente Anlage gibt "
+    + "sie mit ihren Antworten."],
+  entriesAsked: ["These are entries that an operated plant was asked for. The page can't tell whether they are all, and "
+    + "none of its denied lines is among them.",
+    "Dies sind Einträge, nach denen eine bediente Anlage gefragt wurde. Ob es alle sind, sieht die Seite nicht; "
+    + "verweigerte Zeilen sind nicht dabei."],
   summary: ["the counts of a demo journal; there is nothing in it to draw",
     "die Zählung eines demo-Journals; darin ist nichts zu zeichnen"],
   oddAnswers: ["answers that can't be of their events: {0}, the first at {1}; the files don't belong together, or one "

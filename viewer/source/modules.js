@@ -13,7 +13,7 @@ const modules = (() => {
   class Service {
     constructor(name, tag) {
       this.lane = new spans.Lane("service", name); this.lane.owner = tag;
-      this.state = this.lane.track("state"); this.mode = this.lane.track("mode"); this.code = null;
+      this.state = this.lane.track("state"); this.mode = this.lane.track("mode"); this.code = null; this.heard = -1;
       // Which commands it enabled, where that changed.
       this.masks = new spans.Series();
     }
@@ -21,7 +21,7 @@ const modules = (() => {
     report(at, event) {
       const name = nameOf(event.StateCur), isNew = this.code !== event.StateCur;
       if (isNew) this.state.open(at, STYLES[name] ?? "unreported", name);
-      this.code = event.StateCur;
+      this.code = event.StateCur; this.heard = at;
       if (this.masks.last !== event.CommandEn) this.masks.put(at, event.CommandEn);
       const forRecipes = event.Mode === "Automatic" && event.Src === "External";
       if (forRecipes) this.mode.close(at);

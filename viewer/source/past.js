@@ -39,8 +39,9 @@ const past = (() => {
   class History {
     // Where the files have no answers, each event is assumed to be accepted; where they have no events, nobody knows
     // what became of a module or a batch.
-    constructor({ hasAnswers, hasEvents, whole, rules: policy }) {
-      Object.assign(this, { assumed: !hasAnswers, isBlind: !hasEvents, isOfPlant: whole.length > 0, modules: new Map(),
+    constructor({ hasAnswers, hasEvents, whole, isNamed, rules: policy }) {
+      const isOfPlant = whole.length > 0 && !isNamed;
+      Object.assign(this, { assumed: !hasAnswers, isBlind: !hasEvents, isOfPlant, modules: new Map(),
         batches: new Map(), recipes: new Map(), refusals: new Map(), attempts: new Map(), known: new Map(),
         people: new Map(), policy, alarms: [], desk: [], exchanges: [], never: [], odd: [] });
       // Of each entry: its stamp, the tag and the batch that it names, the rule that refused it.
@@ -122,8 +123,22 @@ const past = (() => {
     // A step was left: to be looked at where its service still runs.
     left(at, batch, did) {
       if (modules.isAtRest(did.state)) return;
-      const { service, tag, state } = batch.left[batch.left.length - 1];
-      this.alarm(at, "left", { batch: batch.name, tag }, "leftAlarm", service, tag, words.state(state));
+      this.alarmLeft(at, batch, batch.left[batch.left.length - 1]);
+    }
+    alarmLeft(at, batch, own) {
+      this.alarm(at, "left", { batch: batch.name, tag: own.tag }, "leftAlarm", own.service, own.tag,
+        words.leftState(own));
+    }
+    // An abandon sends nothing: a step that is active then goes on, unless its service was reported at rest since it
+    // was started.
+    abandoned(at, batch) {
+      const before = batch.left.length;
+      batch.abandon(at, batch.active(at).map(({ step, service, tag }) => {
+        const own = this.modules.get(tag)?.services.get(service), isKnown = Boolean(own?.last(at).state);
+        const isBefore = isKnown && own.heard < batch.startOf(step, at), state = isKnown ? own.code : null;
+        return { step, state, isBefore, deed: !isBefore && modules.isAtRest(state) ? "rest" : "left" };
+      }));
+      for (const each of batch.left.slice(before)) this.alarmLeft(at, batch, each);
     }
     // A freeze with holds has asked all that it can once an advance is answered Frozen; what runs on is to be seen.
     reached(at, batch) {
@@ -271,7 +286,10 @@ const past = (() => {
       all.alarm(at, "stop", { batch: event.batch }, "stopAsked", event.batch);
     },
     abandon(all, at, event, answer) {
-      if (all.batches.has(event.batch)) all.shut(at, all.batches.get(event.batch), answer.closed ?? "Abandoned");
+      const batch = all.batches.get(event.batch);
+      if (!batch) return;
+      all.abandoned(at, batch);
+      all.shut(at, batch, answer.closed ?? "Abandoned");
     },
     desk(all, at, event, answer) {
       all.modules.get(event.tag)?.services.get(event.service)?.lane.note(at, "asked");

@@ -2,7 +2,7 @@
 // where it stands in its chart at any entry. Takes what was answered and decides nothing. Knows nothing of drawing.
 "use strict";
 const runs = (() => {
-  const POINT = 1000;
+  const POINT = 1000, ACTIVE = ["on", "ending", "held", "broke"];
   const PHASES = { start: "on", finish: "on", reset: "ending", unhold: "on", hold: "held", end: "done", stop: "off",
     rest: "rest", left: "left", broke: "broke" };
   const MARKS = { chose: "node", turn: "node", leave: "node", broke: "broke", stop: "stop", left: "left",
@@ -42,8 +42,7 @@ const runs = (() => {
     constructor(at, event, known, lane) {
       Object.assign(this, { name: event.batch, recipe: event.recipe, bind: event.bind, watch: event.watch ?? {} });
       Object.assign(this, { known, lane, started: at, ended: null, outcome: null, frozen: false, slots: [], reasons: [],
-        before: [], left: [], freezes: [], unheld: null,
-        points: [new Standing()] });
+        before: [], left: [], abandoned: [], freezes: [], unheld: null, points: [new Standing()] });
       // When it was asked last, how many reports of its modules came since, and when something else changed for it.
       Object.assign(this, { asked: null, heard: 0, changed: at });
       this.log = { at: [], did: [] };
@@ -94,10 +93,20 @@ const runs = (() => {
       if (deed === "left") this.leave(did);
       this.lane.note(at, Object.hasOwn(MARKS, deed) ? MARKS[deed] : "log");
     }
-    // A step was left with its service running: kept with that service.
-    leave({ step, state }) {
-      this.left.push({ ...this.serviceOf(step), state });
+    // A step was left with its service running: kept with that service. Where nothing was reported since its start,
+    // what was reported before is known alone.
+    leave({ step, state, isBefore = false }) {
+      this.left.push({ ...this.serviceOf(step), state, isBefore });
       this.lane.left = this.left;
+    }
+    // The steps that an abandon leaves as they are, of which nothing in the log says so: each with its last report.
+    abandon(at, steps) {
+      this.abandoned = steps;
+      for (const each of steps.filter(({ deed }) => deed === "left")) {
+        this.leave(each);
+        this.slots.find(track => track.isOpen() && track.owner === each.step)?.open(at, "left", each.step);
+        this.lane.note(at, "left");
+      }
     }
     // The service of a step, as its last start has told it.
     serviceOf(step) {
@@ -105,8 +114,11 @@ const runs = (() => {
       return { step, service: start?.service ?? step, tag: start?.tag ?? "?" };
     }
     // The steps that were started and neither asked to hold nor brought to their end, with their services.
-    running(at) {
-      const steps = [...this.standing(at).steps].filter(([, { phase }]) => phase === "on");
+    running(at) { return this.inPhase(at, ["on"]); }
+    // The steps that were started and aren't over, with their services.
+    active(at) { return this.inPhase(at, ACTIVE); }
+    inPhase(at, phases) {
+      const steps = [...this.standing(at).steps].filter(([, { phase }]) => phases.includes(phase));
       return steps.map(([step]) => this.serviceOf(step));
     }
     begin(at, step) {
@@ -137,7 +149,9 @@ const runs = (() => {
       while (this.points.length * POINT <= count) {
         this.points.push(this.after(this.points.length - 1, this.points.length * POINT));
       }
-      return this.after(Math.floor(count / POINT), count);
+      const standing = this.after(Math.floor(count / POINT), count);
+      if (cursor >= (this.ended ?? Infinity)) for (const { step, deed } of this.abandoned) standing.step(step, deed);
+      return standing;
     }
     after(point, count) {
       const standing = this.points[point].copy();

@@ -41,16 +41,25 @@ const seal = (() => {
     return own.bad ? [...told, words.many("Bad", own.bad)] : told;
   }
   // What is told of kept files: how many events they have, and where one is broken.
-  const keptFiles = ({ files }) => files.filter(file => file.kept).flatMap(({ name, kept: { events, broken } }) => {
-    const count = words.number(events), cut = words.say("keptBroken", name, count, words.number(broken ?? 0));
-    const what = words.say(events ? "kept" : "keptEmpty", name, words.many("Events", events));
+  const keptFiles = ({ files }) => files.filter(file => file.kept).flatMap(({ name, kept: own }) => {
+    const { events, broken, begun } = own, isOperated = begun !== null;
+    const key = isOperated ? "keptOperated" : events ? "kept" : "keptEmpty";
+    const what = words.say(key, name, words.many("Events", events), begun), place = words.number(broken ?? 0);
+    const cut = words.say(isOperated ? "operatedBroken" : "keptBroken", name, words.number(events), place);
     return [what, ...(broken === null ? [] : [cut])];
   });
+  // An output ends with its end line; entries that an operated plant was asked for have none.
+  function ended({ ends, isNamed }) {
+    const asked = isNamed ? [words.say("entriesAsked")] : [];
+    if (ends === 1 || (ends === 0 && isNamed)) return asked;
+    return [...asked, words.say(ends ? "manyEnds" : "noEnd", ends)];
+  }
   // How the files don't fit together: events without answers, answers without events, or not as many of each.
-  function unpaired({ events, answers, hasEvents, hasAnswers, ends, length, finder, verdicts: own, site }, { odd }) {
-    if (length === 0) return finder || own.length || site ? [] : [words.say("nothing")];
-    if (!hasAnswers) return [words.say("noAnswers")];
-    const told = ends === 1 ? [] : [words.say(ends ? "manyEnds" : "noEnd", ends)];
+  function unpaired(found, { odd }) {
+    const { events, answers, hasEvents, hasAnswers, files } = found;
+    if (found.length === 0) return found.finder || found.verdicts.length || found.site ? [] : [words.say("nothing")];
+    if (!hasAnswers) return [words.say(files.some(({ kept: own }) => own?.begun) ? "noAnswersKept" : "noAnswers")];
+    const told = ended(found);
     if (!hasEvents) return [...told, words.say("noEvents")];
     if (events.length !== answers.length) told.push(words.say("pairing", events.length, answers.length));
     if (odd.length) told.push(words.say("oddAnswers", words.number(odd.length), words.number(odd[0] + 1)));

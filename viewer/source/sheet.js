@@ -64,7 +64,7 @@ const sheet = (() => {
   function over(own, run) {
     const { batch } = own, isOpen = batch.ended === null;
     if (run.to === null) return [words.say(isOpen ? "phase_on" : "howOpen")];
-    const text = words.say(HOW[run.how], words.state(run.state));
+    const text = words.say(HOW[run.how], words.leftState(run));
     return [run.how === "left" ? make("b", { class: "left" }, text) : text, moment(own, run.to)];
   }
   function stepRow(own, run) {

@@ -47,7 +47,12 @@ const words = (() => {
     return typeof told === "string" ? `“${visible(told)}”` : visible(told);
   }
   // A service that was left running, short.
-  const left = ({ service, tag, state }) => say("leftIn", service, tag, SAID.state(state));
+  const left = own => say("leftIn", own.service, own.tag, leftState(own));
+  // In which state it was left: as reported last, if it was, and perhaps before it was started.
+  function leftState({ state, isBefore }) {
+    if (state === null) return say("unreported");
+    return isBefore ? say("beforeItsStart", SAID.state(state)) : SAID.state(state);
+  }
   // Milliseconds since 1970, from 2001 to 5138, are shown as a time; other stamps as numbers.
   const isTime = stamp => Number(stamp) > 1e12 && Number(stamp) < 1e14;
   function stamp(told) {
@@ -148,7 +153,7 @@ const words = (() => {
   const ownOf = (table, key) => (language && german[table][key]?.[0]) || docs[table][key];
   const word = (table, key) => (Object.hasOwn(docs[table], key) ? ownOf(table, key) : null);
   const set = isGerman => { language = isGerman ? 1 : 0; };
-  return { say, many, visible, number, thousandths, value, stamp, isTime, left, lasted, event, answer, refusal, rule,
-    refusedBy, ruleFor, wait, word, listed, played, set,
+  return { say, many, visible, number, thousandths, value, stamp, isTime, left, leftState, lasted, event, answer,
+    refusal, rule, refusedBy, ruleFor, wait, word, listed, played, set,
     state: SAID.state, command: SAID.command, isGerman: () => language === 1 };
 })();
