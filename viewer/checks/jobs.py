@@ -193,7 +193,7 @@ def check_operated_file(checks):
     checks.open(stored)
     checks.gives('an operated file: its events', 'page.state.found.events.length', 6)
     checks.gives('an operated file: no line is at fault', 'page.state.found.faults.length', 0)
-    checks.says('an operated file: what it is and what it lacks', 'faults', 'pol.plant is the file of an operated plant',
+    checks.says('an operated file: what it is, and lacks', 'faults', 'pol.plant is the file of an operated plant',
                 'with 6 events, begun by pol 1.0.0', 'no answers and none of the lines that the policy denied',
                 "doesn't check its sums", 'as if each had been accepted')
     checks.gives('an operated file: who gave them', '[...page.state.history.people]', [[3, 'ann'], [5, 'ann']])

@@ -4,7 +4,7 @@
 "use strict";
 const deviations = (() => {
   // What is told of the reviewer's list as it stands there; the rest of that list is told here with what belongs to it.
-  const PLAIN = new Set(["deskPermitted", "deskOdd", "deskUnknown", "leftAlarm", "notHeld", "openBatch", "auditHere"]);
+  const PLAIN = new Set(["deskPermitted", "deskOdd", "deskUnknown", "leftAlarm", "notHeld", "openBatch"]);
   const ENDINGS = new Set(["stopAsked", "brokenBatch"]), CLOSINGS = new Set(["abnormal", "closedBatch"]);
   const HOLDS = new Set(["hold", "unhold"]), MOST_LINE = 200;
   const deviation = (at, text, more = [], isLoud = false) => ({ at, text, times: [at], more, isLoud });
@@ -103,7 +103,8 @@ const deviations = (() => {
   }
   // What else stands in the reviewer's list of this batch, and odd stamps while it ran.
   function others({ batch, own, end }) {
-    const isHere = ({ key, at }) => PLAIN.has(key) || (key.startsWith("stamps") && at >= batch.started && at <= end);
+    const isHere = ({ key, at }) => PLAIN.has(key) || key.startsWith("audit")
+      || (key.startsWith("stamps") && at >= batch.started && at <= end);
     return own.alarms().filter(isHere).map(each => alarmed(each));
   }
   // All of a batch by their entries; what has none comes first.

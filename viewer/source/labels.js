@@ -19,7 +19,8 @@ const labels = {
   recipe: ["Recipe", "Rezept"], reviewer: ["For the reviewer", "Für die Prüfung"], entries: ["Entries", "Einträge"],
   refusals: ["What was refused", "Was abgelehnt wurde"], waits: ["What it waited for", "Worauf sie wartete"],
   overview: ["Batches and their outcome", "Chargen und ihr Ausgang"],
-  faults: ["Lines at fault", "Fehlerhafte Zeilen"], legend: ["Legend", "Legende"],
+  faults: ["Lines at fault", "Fehlerhafte Zeilen"],
+  ofFiles: ["What to know of these files", "Was zu diesen Dateien zu wissen ist"], legend: ["Legend", "Legende"],
   overTime: ["Batches over time", "Chargen über die Zeit"],
   modulesOverTime: ["Modules over time", "Module über die Zeit"],
   ruler: ["The whole history, and what is seen of it", "Die ganze Historie, und was davon zu sehen ist"],
@@ -123,10 +124,20 @@ const labels = {
     "nach ihren Stempeln sind die Einträge {0} und {1} vertauscht: {2}, {3}"],
   stampsMissing: ["stamps are missing between entries {0} and {1}: {2}, {3}",
     "zwischen den Einträgen {0} und {1} fehlen Stempel: {2}, {3}"],
-  stampsPause: ["far longer than usual nothing stands between entries {0} and {1}: {2}, {3}",
-    "zwischen den Einträgen {0} und {1} steht weit länger als sonst nichts: {2}, {3}"],
-  auditHere: ["the audit stops here, {0}: the answer should be {1:answer}",
-    "das Audit endet hier, {0}: richtig wäre {1:answer}"],
+  stampsPause: ["the pause between entries {0} and {1} is far longer than usual: {2}, {3}",
+    "die Pause zwischen den Einträgen {0} und {1} ist weit länger als sonst: {2}, {3}"],
+  auditAnswer: ["the audit finds this answer wrong; it should be: {0:answer}",
+    "das Audit findet diese Antwort falsch; richtig wäre: {0:answer}"],
+  auditTooMany: ["the audit stops here: there are more entries than it takes",
+    "das Audit endet hier: es sind mehr Einträge, als es annimmt"],
+  auditLine: ["the audit stops here: this line is no entry as pol writes it",
+    "das Audit endet hier: diese Zeile ist kein Eintrag, wie pol ihn schreibt"],
+  auditBatch: ["the audit finds line {0} wrong: the line of batch {1} isn't the one that follows from the entries, or "
+    + "one is missing before it",
+    "das Audit findet Zeile {0} falsch: die Zeile von Charge {1} ist nicht die, die aus den Einträgen folgt, oder vor "
+    + "ihr fehlt eine"],
+  auditTail: ["the audit finds line {0} wrong: what follows the entries is wrong or missing",
+    "das Audit findet Zeile {0} falsch: was den Einträgen folgt, ist falsch oder fehlt"],
   // Audit.
   notAudited: ["not audited", "nicht geprüft"], auditGood: ["audit: good", "Audit: gut"],
   auditBad: ["audit: wrong", "Audit: falsch"],
@@ -140,16 +151,27 @@ const labels = {
     "Das Urteil gilt der Datei {0} mit der SHA-256 {1}."],
   sealMissing: ["the files have no verdict of the job audit or attest",
     "in den Dateien steht kein Urteil von audit oder attest"],
-  goodWords: ["The job audit found {0} entries true: each answer is the one that looking back in the history gives, "
-    + "and the batch lines follow.",
-    "audit fand {0} Einträge wahr: jede Antwort ist die, die der Blick zurück in die Historie ergibt, und "
-    + "die Zeilen der Chargen folgen."],
+  auditMeans: ["each answer follows from the events given",
+    "jede Antwort folgt aus den Ereignissen, die dastehen"],
+  goodWords: ["The audit of {0} entries is good: each answer is the one that follows from the events given, and so are "
+    + "the batch lines. {1}",
+    "Das Audit über {0} Einträge ist gut: jede Antwort ist die, die aus den Ereignissen folgt, die dastehen, ebenso "
+    + "die Zeilen der Chargen. {1}"],
+  auditLacks: ["It doesn't check stamps, names, recipes with their settings and limits, what modules reported, nor "
+    + "whether lines were left out, put in or moved.",
+    "Es prüft weder Stempel, Namen, Rezepte mit ihren Einstellungen und Grenzen noch, was Module meldeten, noch ob "
+    + "Zeilen fehlen, hinzukamen oder den Platz tauschten."],
   otherLength: ["A verdict of {0} came along; here are {1}. It is of another file, and isn't shown.",
     "Ein Urteil über {0} ist dabei; hier sind {1}. Es gilt einer anderen Datei und wird nicht gezeigt."],
-  otherSum: ["A verdict came along over a file of {0} bytes that isn't here, or isn't all of what is here; "
-    + "it isn't shown.",
-    "Ein Urteil über eine Datei von {0} Bytes ist dabei, die nicht hier ist oder nicht alles ist, was hier ist; "
-    + "es wird nicht gezeigt."],
+  otherSum: ["A verdict came along over a file with the SHA-256 {0} that isn't here, or isn't all of what is here; "
+    + "it isn't shown.{1}",
+    "Ein Urteil über eine Datei mit der SHA-256 {0} ist dabei, die nicht hier ist oder nicht alles ist, was hier "
+    + "ist; es wird nicht gezeigt.{1}"],
+  otherSumHere: [" {0}, which is of that size, has the SHA-256 {1}.", " {0}, die so groß ist, hat die SHA-256 {1}."],
+  otherLines: ["A verdict that names no file came along. It can't be of these lines: an audit takes none with a "
+    + "policy, a name (by), a question or a denial. It is of another file, and isn't shown.",
+    "Ein Urteil ist dabei, das keine Datei nennt. Diesen Zeilen kann es nicht gelten: ein Audit nimmt keine mit "
+    + "Richtlinie, Namen (by), Frage oder Verweigerung. Es gilt einer anderen Datei und wird nicht gezeigt."],
   otherPlace: ["A verdict came along that finds entry {0} wrong; here are {1}. It is of another file, and isn't shown.",
     "Ein Urteil ist dabei, nach dem Eintrag {0} falsch ist; hier sind {1}. Es gilt einer anderen Datei und wird nicht "
     + "gezeigt."],
@@ -165,6 +187,10 @@ const labels = {
     "die Antwort ist nicht die, die die Einträge davor ergeben"],
   whyTooMany: ["there are more entries than an audit takes", "es sind mehr Einträge, als ein Audit annimmt"],
   whyTail: ["what follows the entries is wrong or missing", "was den Einträgen folgt, ist falsch oder fehlt"],
+  whyLine: ["this line is no entry as pol writes it, and what follows isn't the end of the entries before it",
+    "diese Zeile ist kein Eintrag, wie pol ihn schreibt, und was folgt, ist nicht das Ende der Einträge davor"],
+  whyBatch: ["the line of batch {0} isn't the one that follows from the entries, or one is missing before it",
+    "die Zeile von Charge {0} ist nicht die, die aus den Einträgen folgt, oder vor ihr fehlt eine"],
   shouldBe: ["it should be: {0}", "richtig wäre: {0}"],
   // Faults of files.
   pairing: ["{0} events and {1} answers: they don't belong together, or one file is cut",
@@ -196,7 +222,7 @@ const labels = {
     + "gives them with their answers.",
     "Die Ereignisse sind gezeichnet, als wäre jedes angenommen worden. Die Frage entries an die bediente Anlage gibt "
     + "sie mit ihren Antworten."],
-  entriesAsked: ["These are entries that an operated plant was asked for. The page can't tell whether they are all, and "
+  entriesAsked: ["These are entries that an operated plant was asked for. The page can't tell whether they are all; "
     + "none of its denied lines is among them.",
     "Dies sind Einträge, nach denen eine bediente Anlage gefragt wurde. Ob es alle sind, sieht die Seite nicht; "
     + "verweigerte Zeilen sind nicht dabei."],
@@ -232,13 +258,13 @@ const labels = {
   deniedBy: ["denied by the policy's rule {0}", "verweigert von der Regel {0} der Richtlinie"],
   deniedByNone: ["denied: no rule of the policy allows it", "verweigert: keine Regel der Richtlinie erlaubt es"],
   deniedMore: ["This rule of the policy denies it, so the plant never saw the command and it isn't in the history. "
-    + "Who may give it, the policy says.",
-    "Diese Regel der Richtlinie verweigert es; die Anlage sah den Befehl nie, und er steht nicht in der Historie. Wer "
-    + "ihn geben darf, sagt die Richtlinie."],
+    + "The policy says who may give it.",
+    "Diese Regel der Richtlinie verweigert es; die Anlage sah den Befehl nie, und er steht nicht in der Historie. Die "
+    + "Richtlinie sagt, wer ihn geben darf."],
   deniedByNoneMore: ["No rule of the policy allows it, so the plant never saw the command and it isn't in the "
-    + "history. Who may give it, the policy says.",
-    "Keine Regel der Richtlinie erlaubt es; die Anlage sah den Befehl nie, und er steht nicht in der Historie. Wer ihn "
-    + "geben darf, sagt die Richtlinie."],
+    + "history. The policy says who may give it.",
+    "Keine Regel der Richtlinie erlaubt es; die Anlage sah den Befehl nie, und er steht nicht in der Historie. Die "
+    + "Richtlinie sagt, wer ihn geben darf."],
   inPolicy: ["in the policy: {0}", "in der Richtlinie: {0}"], everybody: ["everybody", "alle"],
   service: ["Service", "Dienst"],
   askedFor: ["asked by {0}", "verlangt von {0}"], who: ["Who", "Wer"],
@@ -354,10 +380,10 @@ const labels = {
     "Ein Stempel ist die Zahl at einer Zeile, wie sie angab, wer die Zeile schrieb: pol bewahrt sie auf und "
     + "vergleicht sie "
     + "mit nichts. Millisekunden seit 1970 sind als Datum in UTC gezeigt, andere Zahlen, wie sie sind."],
-  namesMean: ["Who gave a line is the name that its by has; pol believes it. Beside a command of a recipe it is "
+  namesMean: ["Who gave a line is the name in its field by; pol believes it. Beside a command of a recipe it is "
     + "whoever let the batch go on: which command that is the recipe says.",
-    "Von wem eine Zeile ist, sagt der Name in ihrem by; pol glaubt ihn. Neben einem Befehl des Rezepts ist es, wer die "
-    + "Charge weiterlaufen ließ: welcher Befehl das ist, sagt das Rezept."],
+    "Von wem eine Zeile ist, sagt der Name in ihrem Feld by; pol glaubt ihn. Neben einem Befehl des Rezepts ist es, "
+    + "wer die Charge weiterlaufen ließ: welcher Befehl das ist, sagt das Rezept."],
   recipeMeans: ["The recipe's checksum is of its chart, name and roles in compact form, keys in order, each step "
     + "with its "
     + "settings: one recipe has one checksum in every file.",
@@ -374,7 +400,7 @@ const labels = {
   startEvent: ["batch {batch} of recipe {recipe} is to start on {bind:bind}{watch:watch}",
     "Charge {batch} von Rezept {recipe} soll starten auf {bind:bind}{watch:watch}"],
   watches: [", watching {0}", ", beobachtet {0}"],
-  advance: ["batch {batch} may go one step further", "Charge {batch} darf einen Schritt weiter"],
+  advance: ["batch {batch} is asked to go one step further", "Charge {batch} soll einen Schritt weitergehen"],
   freeze: ["batch {batch} is to be frozen", "Charge {batch} soll eingefroren werden"],
   freezeHolding: ["batch {batch} is to be frozen, its services are to hold",
     "Charge {batch} soll eingefroren werden, ihre Dienste sollen halten"],

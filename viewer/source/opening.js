@@ -30,7 +30,7 @@ const opening = (() => {
       }
     }
     const verdict = verdicts.own(found, history);
-    if (verdict?.audit === "bad" && verdict.place < found.length) history.doubt(verdict);
+    if (verdict?.audit === "bad") history.doubt(verdict, verdicts.wrong(verdict, found, history));
     history.finish(found.site);
     for (const recipe of history.recipes.values()) recipe.sum = await sumOf(new TextEncoder().encode(recipe.text));
     return history;

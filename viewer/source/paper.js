@@ -88,7 +88,7 @@ const paper = (() => {
     const all = seal.faults(found, history);
     const told = all.slice(0, MOST_ROWS).map(text => make("p", { class: "why" }, text));
     if (all.length > told.length) told.push(make("p", {}, words.say("more", words.number(all.length - told.length))));
-    return told.length ? section("faults", ...told) : null;
+    return told.length ? section("ofFiles", ...told) : null;
   }
   function signPage(found, history, chosen, verdict) {
     const only = chosen.isAll ? null : make("p", { class: "only" }, words.say("signOnly", chosen.told));

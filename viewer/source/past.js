@@ -190,9 +190,11 @@ const past = (() => {
         last = stamps[at];
       }
     }
-    // Where an audit found the first thing wrong.
-    doubt({ place, why, says }) {
-      this.alarm(place, "abort", {}, "auditHere", String(why), says);
+    // Where an audit found the first thing wrong: at an entry, or in a line behind them, which may be of a batch.
+    doubt({ place, says }, { what, name }) {
+      const batch = this.batches.get(name), end = Math.max(0, this.stamps.length - 1);
+      const at = batch?.ended ?? Math.min(place, end), values = what === "Answer" ? [says] : [place + 1, name];
+      this.alarm(at, "abort", batch ? { batch: name } : {}, `audit${what}`, ...values);
     }
     kindOfType(type, name) {
       const last = [...this.modules.values()].map(({ docks }) => docks[docks.length - 1]);
