@@ -58,7 +58,7 @@ const paper = (() => {
       [name, [text, since, again].filter(each => each).join(" · "), branches]);
     const why = [...running, ...never.map(each => [each.name, reasons.never(each, history).join(" "), []])];
     const told = ([name, text, branches]) => make("div", { class: "why" }, make("b", {}, words.visible(name)),
-      `: ${text}`, ...branches.map(each => make("span", { class: "branch" }, each)));
+      `: ${text}`, ...branches.map(each => tables.branch(each, "branch")));
     return section("overview", cut(tables.BATCH_KEYS, rows, "overview"), ...why.slice(0, MOST_ROWS).map(told));
   }
   function refusals(chosen) {

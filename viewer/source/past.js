@@ -153,11 +153,31 @@ const past = (() => {
         this.alarm(at, "left", { batch: batch.name, tag }, "notHeld", service, tag, words.state(code));
       }
     }
+    // What a hold can't reach by what was reported, from the freeze on: also where no advance was answered Frozen.
+    watchHold(at, batch) {
+      if (!batch?.frozen || !batch.holds) return;
+      for (const each of batch.running(at)) {
+        const own = this.modules.get(each.tag)?.services.get(each.service), isNew = !batch.missed.has(each.step);
+        if (own?.isBeyondHold && isNew) batch.missed.set(each.step, { ...each, at, code: own.code });
+      }
+    }
+    // No hold came by the end of the freeze, or of the files.
+    endHold(batch) {
+      for (const { step, service, tag, at, code } of batch.missed.values()) {
+        if (batch.unheld?.some(each => each.step === step)) continue;
+        this.alarm(at, "left", { batch: batch.name, tag }, "notHeld", service, tag, words.state(code));
+      }
+    }
+    thaw(at, batch) {
+      this.endHold(batch);
+      batch.thaw(at);
+    }
     free(at, batch) {
       for (const tag of batch.tags) this.modules.get(tag)?.held(at, null);
       for (const tag of Object.values(batch.watch)) this.modules.get(tag)?.watched(at, batch.name, false);
     }
     shut(at, batch, outcome) {
+      this.endHold(batch);
       batch.close(at, outcome);
       this.free(at, batch);
       if (outcome !== "Completed") {
@@ -175,7 +195,9 @@ const past = (() => {
       }
       this.never = [...this.attempts.values()].filter(each => !this.batches.has(each.name));
       for (const batch of this.batches.values()) {
-        if (!batch.outcome && !this.assumed) this.alarm(end, "hold", { batch: batch.name }, "openBatch", batch.name);
+        if (batch.outcome) continue;
+        this.endHold(batch);
+        if (!this.assumed) this.alarm(end, "hold", { batch: batch.name }, "openBatch", batch.name);
       }
       for (const each of this.never) this.alarm(end, "hold", { batch: each.name }, "neverBatch", each.name);
       this.alarms.sort((one, two) => one.at - two.at);
@@ -235,6 +257,7 @@ const past = (() => {
     report(all, at, event) {
       const module = all.modules.get(event.tag), state = module?.services.get(event.service)?.report(at, event);
       all.hear(module);
+      all.watchHold(at, all.batches.get(module?.holder));
       if (state === "Aborted" || state === "Stopped") {
         const style = state === "Aborted" ? "abort" : "stop";
         all.alarm(at, style, { tag: event.tag }, "abnormal", event.service, event.tag, state);
@@ -277,13 +300,17 @@ const past = (() => {
       }
     },
     freeze(all, at, event) {
-      all.batches.get(event.batch)?.freeze(at, event.hold === true);
+      const batch = all.batches.get(event.batch);
+      batch?.freeze(at, event.hold === true);
+      all.watchHold(at, batch);
       all.alarm(at, "hold", { batch: event.batch }, event.hold === true ? "frozenHolding" : "frozen", event.batch);
     },
-    thaw: (all, at, event) => all.batches.get(event.batch)?.thaw(at),
+    thaw(all, at, event) {
+      if (all.batches.has(event.batch)) all.thaw(at, all.batches.get(event.batch));
+    },
     stop(all, at, event, answer) {
       const batch = all.batches.get(event.batch);
-      batch?.thaw(at);
+      if (batch) all.thaw(at, batch);
       if (batch && "did" in answer) batch.did(at, answer.did);
       all.alarm(at, "stop", { batch: event.batch }, "stopAsked", event.batch);
     },

@@ -43,6 +43,8 @@ const runs = (() => {
       Object.assign(this, { name: event.batch, recipe: event.recipe, bind: event.bind, watch: event.watch ?? {} });
       Object.assign(this, { known, lane, started: at, ended: null, outcome: null, frozen: false, slots: [], reasons: [],
         before: [], left: [], abandoned: [], freezes: [], unheld: null, points: [new Standing()] });
+      // Steps that a hold didn't reach as long as the batch is frozen, each with its service and since when.
+      this.missed = new Map();
       // When it was asked last, how many reports of its modules came since, and when something else changed for it.
       Object.assign(this, { asked: null, heard: 0, changed: at });
       this.log = { at: [], did: [] };
@@ -76,12 +78,12 @@ const runs = (() => {
     freeze(at, holds) {
       this.frozen = true; this.holds = holds; this.changed = at;
       this.freezes.push({ from: at, to: null, holds });
-      this.unheld = null;
+      this.unheld = null; this.missed.clear();
       this.wait(at, { wait: "Frozen" });
     }
     thaw(at) {
       if (this.frozen) this.freezes[this.freezes.length - 1].to = at;
-      this.frozen = false; this.changed = at; this.waits.close(at);
+      this.frozen = false; this.changed = at; this.waits.close(at); this.missed.clear();
     }
     // An entry of the log: kept, and shown in the slot of its step.
     did(at, did) {
@@ -91,6 +93,7 @@ const runs = (() => {
       else this.moved(at, did);
       const deed = deedOf(did);
       if (deed === "left") this.leave(did);
+      if (deed === "hold") this.missed.delete(did.step);
       this.lane.note(at, Object.hasOwn(MARKS, deed) ? MARKS[deed] : "log");
     }
     // A step was left with its service running: kept with that service. Where nothing was reported since its start,
@@ -138,7 +141,7 @@ const runs = (() => {
     }
     close(at, outcome) {
       if (this.frozen) this.freezes[this.freezes.length - 1].to = at;
-      this.outcome = outcome; this.ended = at; this.frozen = false;
+      this.outcome = outcome; this.ended = at; this.frozen = false; this.missed.clear();
       for (const track of [this.whole, this.waits, ...this.slots]) track.close(at);
       this.lane.outcome = outcome;
       this.lane.note(at, `end ${ENDS[outcome] ?? "stop"}`);

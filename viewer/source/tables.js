@@ -145,10 +145,13 @@ const tables = (() => {
     const items = told.slice(0, MOST_WAITS).map(each => waitItem(each, go, pick, stamps));
     holder.replaceChildren(items.length ? make("ul", {}, ...items) : calm(none));
   }
+  // A branch at which a batch stands; what is to be looked at there is red.
+  const branch = ({ text, warning }, style) => make("span", { class: style }, text, warning ? " · " : null,
+    warning ? make("b", { class: "left" }, warning) : null);
   function stillItem({ name: batch, at, text, since, again, branches }, go, pick) {
     const under = make("span", { class: "small block" }, since, again ? " · " : null,
       again ? make("b", { class: "again" }, again) : null);
-    const each = branches.map(branch => make("span", { class: "small branch" }, branch));
+    const each = branches.map(own => branch(own, "small branch"));
     return make("li", {}, picked(batch, pick), jump(at, go), make("span", {}, text), under, ...each);
   }
   // What waits or stands still at the end, and by each batch where its branches stand.
@@ -157,6 +160,6 @@ const tables = (() => {
     if (left) items.push(make("li", { class: "calm" }, words.say("more", words.number(left))));
     holder.replaceChildren(make("ul", {}, ...items));
   }
-  return { make, name, jump, table, more, NUMBERS, chip, calm, batches, alarms, alarmTold, refusals, below, finder,
-    waits, still, BATCH_KEYS, batchRow, neverRow };
+  return { make, name, jump, table, more, NUMBERS, chip, calm, batches, alarms, alarmTold, refusals, below, branch,
+    finder, waits, still, BATCH_KEYS, batchRow, neverRow };
 })();
