@@ -28,6 +28,7 @@ BREAKS = {'#paper h2': ('breakAfter', 'avoid'), '#paper tr': ('breakInside', 'av
 def check(checks):
     check_stored(checks)
     check_kinds(checks)
+    check_by_hand(checks)
     check_warnings(checks)
     check_build(checks)
     check_recipe(checks)
@@ -90,6 +91,22 @@ def check_kinds(checks):
         checks.open(*files)
         told = words_of(checks, batch)
         checks.same('sheet of %s: what the stored ones lack' % (batch or 'b'), [t for t in texts if t not in told], [])
+
+
+def check_by_hand(checks):
+    """What an operator held stands with that command, not with a freeze that didn't reach it."""
+    journal, answers = (file.read_text().splitlines() for file in signed(checks))
+    row = answers.index('{"wait":"Frozen"}', 50)
+    report = json.loads(next(line for line in journal if '"Mode":"Operator"' in line))
+    heat = [json.dumps(dict(report, StateCur=code)) for code in (1024, 2048)]
+    desk = '{"ev":"desk","at":1795932246000,"by":"ann","tag":"K11","service":"heat","CommandOp":16}'
+    asked = '{"did":{"command":16,"do":"asked","service":"heat","tag":"K11"}}'
+    checks.open(checks.kept('hand', '\n'.join(journal[:row + 2] + [desk, *heat])),
+                checks.kept('hand.answers', '\n'.join(answers[:row + 1] + [asked] + ['{"done":true}'] * 2)))
+    rows = [line for line in words_of(checks).splitlines() if 'reported in Held' in line]
+    by_hand = 'ann asked heat of K11 for Hold: permitted / heat of K11 was reported in Holding / entry 58'
+    checks.that('held by hand: with the command', by_hand in rows[-1] and 'in Held / entry 59' in rows[-1], rows)
+    checks.that('and the freeze has its own', 'stir of K11' in rows[0] and 'heat' not in rows[0], rows)
 
 
 def row_of(file):

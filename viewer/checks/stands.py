@@ -94,6 +94,31 @@ def check_held(checks):
     checks.says('with what runs on', 'alarms', 'heat of K11 runs on in Execute, though its batch is to hold')
     checks.open(checks.data('holding'), checks.data('holding.answers'))
     checks.gives('one that reached all is no alarm', told, [])
+    check_held_unasked(checks)
+
+
+def check_held_unasked(checks):
+    """Where no advance was answered Frozen, what a hold didn't reach is told by the reports: at a thaw, a close and the
+    end, since the freeze. What may be held is none of it, nor what was held."""
+    told = """page.state.history.alarms.filter(each => each.key === 'notHeld').map(each => each.at + 1)"""
+    files = checks.data('signed'), checks.data('signed.answers')
+    journal, answers = (file.read_text().splitlines() for file in files)
+    asked = answers.index('{"wait":"Frozen"}', 50)
+    journal, answers = journal[:asked + 1] + journal[asked + 2:], answers[:asked] + answers[asked + 1:]
+    heat = next(k for k, line in enumerate(journal) if '"Mode":"Operator"' in line)
+    close = ['{"ev":"abandon","at":1,"batch":"blue"}'], ['{"closed":"Abandoned"}', '{"end":true}']
+    for name, end, more, mode, wanted in (('a thaw', None, ([], []), 'Operator', [52]),
+                                          ('a close', asked, close, 'Operator', [52]),
+                                          ('the end', asked, ([], ['{"end":true}']), 'Operator', [52]),
+                                          ('the end, where it may be held', asked, ([], []), 'Automatic', [])):
+        lines = journal[:heat] + [journal[heat].replace('"Operator"', '"%s"' % mode)] + journal[heat + 1:]
+        files = [lines[:end and end + 1] + more[0], answers[:end] + more[1]]
+        checks.open(*(checks.kept('unasked-%d' % k, '\n'.join(each) + '\n') for k, each in enumerate(files)))
+        checks.gives('a hold that fell short by reports: ' + name, told, wanted)
+        if name == 'the end':
+            ends = "[...document.querySelectorAll('#still b.left')].map(each => [each.textContent, " \
+                'getComputedStyle(each).color])'
+            checks.gives('and its branch says so in red', ends, [["the hold doesn't reach it: go and look", RED]])
 
 
 def check_permitted(checks):
