@@ -18,11 +18,12 @@ DENIED = (('denied policy', '2', 'No rule of the policy allows it', 'asked by da
           ('no-abort-by-hand policy', '2', 'in the policy: Who: everybody · Command: Abort', 'asked by ann, dan'),
           ('shift-never-drains policy', '1', 'in the policy: Who: shift · Service: drain', 'asked by cat'),
           ('StateForbids 31', '1', 'wait for another state', 'asked by ben'))
-ASKED = ((6, 'ann asked dose of DOS1 for Start: permitted'),
-         (7, "cat asked drain of MIX1 for Start: denied by the policy's rule shift-never-drains"),
-         (9, 'dan asked dose of DOS1 for Start: denied, no rule of the policy allows it'),
-         (12, 'ben asked dose of DOS1 for Hold: refused, StateForbids'),
-         (14, 'an operator asked stir of MIX1 for Start, in a line at fault'))
+# Entries are counted as an audit counts them; what is none has its line's number.
+ASKED = (('6', 'ann asked dose of DOS1 for Start: permitted'),
+         ('line 8', "cat asked drain of MIX1 for Start: denied by the policy's rule shift-never-drains"),
+         ('line 10', 'dan asked dose of DOS1 for Start: denied, no rule of the policy allows it'),
+         ('8', 'ben asked dose of DOS1 for Hold: refused, StateForbids'),
+         ('line 15', 'an operator asked stir of MIX1 for Start, in a line at fault'))
 
 
 def check(checks):
@@ -49,19 +50,22 @@ def check_guard(checks):
     checks.says('guard: a denied command is no entry', 'counts', '8 entries', '5 denied', '1 line at fault')
     alarms = checks.run(ROWS % '#alarms')
     for entry, text in ASKED:
-        checks.that('guard: the reviewer sees who asked: %d' % entry, [str(entry), text] in alarms, alarms)
+        checks.that('guard: the reviewer sees who asked: %s' % entry, [entry, text] in alarms, alarms)
     checks.run('page.go(6)')
     checks.says('guard: a denial at the cursor', 'here', 'answered line 7 of 14', 'cat asks drain of MIX1 for Start',
                 "denied by the policy's rule shift-never-drains", 'the plant never saw the command')
+    checks.run('page.go(11)')
+    checks.says('guard: an entry behind denials at the cursor', 'here', 'entry 8 of 8', 'line 13')
     checks.choose('chosenRule', 'denied no-abort-by-hand')
     checks.gives('guard: a rule of the policy can be chosen', 'page.entries.count', 2)
+    checks.same('guard: and its lines are no entries', checks.text('rows'), '2 lines that are no entries')
     checks.choose('chosenRule', '')
     marks = "page.state.history.modules.get('MIX1').services.get('stir').lane.mark"
     checks.gives('guard: a denial is marked in its lane', marks, ['refused'] * 3)
     checks.run(PAPER % 'before')
     printed = [[row[0], *row[2:4]] for row in checks.run(PRINTED % 'Commands of operators')]
-    wanted = (['7', 'cat', 'Start: drain, MIX1'], ['12', 'ben', 'Hold: dose, DOS1'],
-              ['14', 'not named', 'Start: stir, MIX1'])
+    wanted = (['line 8', 'cat', 'Start: drain, MIX1'], ['8', 'ben', 'Hold: dose, DOS1'],
+              ['line 15', 'not named', 'Start: stir, MIX1'])
     for row in wanted:
         checks.that('guard: who asked stands on paper: %s' % row, row in printed, printed)
     checks.says('guard: and the rule', 'paper', 'no-abort-by-hand', 'asked by ann, dan')

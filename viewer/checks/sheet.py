@@ -104,8 +104,8 @@ def check_by_hand(checks):
     checks.open(checks.kept('hand', '\n'.join(journal[:row + 2] + [desk, *heat])),
                 checks.kept('hand.answers', '\n'.join(answers[:row + 1] + [asked] + ['{"done":true}'] * 2)))
     rows = [line for line in words_of(checks).splitlines() if 'reported in Held' in line]
-    by_hand = 'ann asked heat of K11 for Hold: permitted / heat of K11 was reported in Holding / entry 58'
-    checks.that('held by hand: with the command', by_hand in rows[-1] and 'in Held / entry 59' in rows[-1], rows)
+    by_hand = 'ann asked heat of K11 for Hold: permitted / heat of K11 was reported in Holding / entry 56'
+    checks.that('held by hand: with the command', by_hand in rows[-1] and 'in Held / entry 57' in rows[-1], rows)
     checks.that('and the freeze has its own', 'stir of K11' in rows[0] and 'heat' not in rows[0], rows)
 
 
@@ -168,9 +168,9 @@ def check_names(checks):
     for text in ('Started | entry 11 · 2026-11-29 06:00:36.500 UTC · line given by: cleo',
                  'Recipe made known | entry 1 · 2026-11-29 06:00:04.000 UTC · line given by: hal',
                  '12 | 2026-11-29 06:00:38.000 UTC | dan | Start is asked for: dose of T1',
-                 '70 | 2026-11-29 06:06:03.500 UTC | finn | batch blue is to stop',
+                 '68 | 2026-11-29 06:06:03.500 UTC | finn | batch blue is to stop',
                  'entry 36 / 2026-11-29 06:01:40.500 UTC / gus | T1 was exchanged',
-                 'entry 57 · 2026-11-29 06:05:05.500 UTC · eva'):
+                 'entry 55 · 2026-11-29 06:05:05.500 UTC · eva'):
         checks.that('whose line it was: ' + text[-40:], text in told, told)
     checks.that('and who was asked twice', told.count('cleo') == 3, told.count('cleo'))
     checks.says('the reviewer is told too', 'alarms', 'batch blue was asked to stop (by finn)',

@@ -18,6 +18,7 @@ const opening = (() => {
   }
   async function build(found, progress) {
     const history = new past.History(found);
+    words.places(at => history.placed(at));
     for (let at = 0; at < found.length; at += 1) {
       try {
         history.take(at, ...found.entry(at));

@@ -39,21 +39,31 @@ const past = (() => {
   class History {
     // Where the files have no answers, each event is assumed to be accepted; where they have no events, nobody knows
     // what became of a module or a batch.
-    constructor({ hasAnswers, hasEvents, whole, isNamed, rules: policy }) {
+    constructor(found) {
+      const { hasAnswers, hasEvents, whole, isNamed, rules: policy } = found;
+      this.lineOf = at => found.line(at);
       const isOfPlant = whole.length > 0 && !isNamed;
       Object.assign(this, { assumed: !hasAnswers, isBlind: !hasEvents, isOfPlant, modules: new Map(),
         batches: new Map(), recipes: new Map(), refusals: new Map(), attempts: new Map(), known: new Map(),
         people: new Map(), policy, alarms: [], desk: [], exchanges: [], never: [], odd: [] });
       // Of each entry: its stamp, the tag and the batch that it names, the rule that refused it.
       Object.assign(this, { stamps: [], tags: [], names: [], rules: [] });
+      // Which entries these are, by their numbers.
+      this.own = [];
+      this.numbers = [];
       this.counts = Object.fromEntries(["lines", "none", ...KINDS].map(kind => [kind, 0]));
     }
-    // How many entries the history has: a line at fault is none, nor is a command that a policy denied, nor what a full
-    // history refused.
-    get entries() {
-      const { lines, bad, denied } = this.counts;
-      return lines - bad - denied - (this.refusals.get("HistoryFull")?.length ?? 0);
+    // How many entries the history has, as an audit counts them: a line at fault is none, nor is a line that a policy
+    // denied, nor what a full history refused.
+    get entries() { return this.own.length; }
+    count(at, kind, rule) {
+      const isEntry = kind !== "bad" && kind !== "denied" && rule !== "HistoryFull";
+      if (isEntry) this.own.push(at);
+      this.numbers.push(isEntry ? this.own.length : 0);
     }
+    isEntry(at) { return this.numbers[at] > 0; }
+    // The number of an entry; of a line that is none, where it stands in its file.
+    placed(at) { return this.isEntry(at) ? { entry: this.numbers[at] } : { line: this.lineOf(at) }; }
     // A text that comes again and again is kept once.
     once(text) {
       if (typeof text !== "string") return null;
@@ -72,6 +82,7 @@ const past = (() => {
       if (event !== undefined && answer && !isPair(event, kind)) this.odd.push(at);
       const isRefused = Object.hasOwn(RULES, kind), rule = isRefused ? this.once(RULES[kind](answer)) : null;
       this.rules.push(kind === "bad" ? "bad" : rule);
+      this.count(at, kind, rule);
       if (typeof event?.by === "string") this.people.set(at, this.once(event.by));
       if (isRefused) this.refuse(at, event, answer, rule);
       else if ((kind !== "none" || this.assumed) && event && Object.hasOwn(TAKES, event.ev)) {
@@ -215,7 +226,7 @@ const past = (() => {
     // Where an audit found the first thing wrong: at an entry, or in a line behind them, which may be of a batch.
     doubt({ place, says }, { what, name }) {
       const batch = this.batches.get(name), end = Math.max(0, this.stamps.length - 1);
-      const at = batch?.ended ?? Math.min(place, end), values = what === "Answer" ? [says] : [place + 1, name];
+      const at = batch?.ended ?? this.own[place] ?? end, values = what === "Answer" ? [says] : [place + 1, name];
       this.alarm(at, "abort", batch ? { batch: name } : {}, `audit${what}`, ...values);
     }
     kindOfType(type, name) {

@@ -72,7 +72,7 @@ const seal = (() => {
     const told = ended(found);
     if (!hasEvents) return [...told, words.say("noEvents")];
     if (events.length !== answers.length) told.push(words.say("pairing", events.length, answers.length));
-    if (odd.length) told.push(words.say("oddAnswers", words.number(odd.length), words.number(odd[0] + 1)));
+    if (odd.length) told.push(words.say("oddAnswers", words.number(odd.length), words.entry(odd[0])));
     return told;
   }
   // Batch lines that say another outcome than the entries.

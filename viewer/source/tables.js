@@ -16,9 +16,8 @@ const tables = (() => {
   }
   const name = text => make("bdi", {}, words.visible(text));
   function jump(at, go) {
-    const named = `${words.say("entry")} ${at + 1}`;
-    const attributes = { class: "jump", type: "button", click: () => go(at), "aria-label": named };
-    return make("button", attributes, words.number(at + 1));
+    const attributes = { class: "jump", type: "button", click: () => go(at), "aria-label": words.entryAt(at) };
+    return make("button", attributes, words.entry(at));
   }
   const picked = (text, pick) => make("button", { class: "jump", type: "button", click: () => pick(text) }, name(text));
   const NUMBERS = new Set(["from", "to", "duration", "count", "size"]);
@@ -42,8 +41,8 @@ const tables = (() => {
   }
   function batchRow(batch, history, pick) {
     const { stamps } = history, end = batch.ended ?? stamps.length - 1;
-    const ended = batch.ended === null ? "…" : words.number(batch.ended + 1);
-    const numbers = [words.number(batch.started + 1), ended, words.lasted(stamps[batch.started], stamps[end])];
+    const ended = batch.ended === null ? "…" : words.entry(batch.ended);
+    const numbers = [words.entry(batch.started), ended, words.lasted(stamps[batch.started], stamps[end])];
     const outcome = batch.outcome ?? words.say(history.assumed ? "unknown" : "running");
     const style = OUTCOMES[batch.outcome] ?? (history.assumed ? "idle" : "hold");
     return row(batch, pick, words.played(batch), numbers, style, outcome, batch.left);

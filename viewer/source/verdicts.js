@@ -41,7 +41,7 @@ const verdicts = (() => {
     const lines = entries + found.batches.length + found.faults.length + 1;
     const isBehind = verdict.why === "Tail" ? place > lines : place >= entries;
     if (isBehind) return ["otherPlace", place + 1, entries];
-    const isSame = verdict.why === "Answer" && sameAnswer(found.entry(place)[1], verdict.says);
+    const isSame = verdict.why === "Answer" && sameAnswer(found.entry(history.own[place])[1], verdict.says);
     return isSame ? ["otherAnswer", place + 1] : null;
   }
   // The verdict that is shown: a bad one before a good one.
