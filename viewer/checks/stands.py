@@ -72,16 +72,21 @@ def check_abandoned(checks):
     stop = next(k for k, line in enumerate(journal) if '"stop"' in line)
     running = [line for line in journal[:stop] if '"ev":"report"' in line and '"StateCur":64' in line]
     heat = next(line for line in running if '"heat"' in line)
-    for name, more, wanted in (
-            ('running', [], ['heat of K11 was left in Execute: go and look', 'stir of K11 was left in']),
-            ('at rest', [heat.replace('"StateCur":64', '"StateCur":131072')], ['stir of K11 was left in'])):
-        lines = journal[:stop] + more + ['{"ev":"abandon","at":99,"batch":"red"}']
-        told = answers[:stop] + ['{"done":true}'] * len(more) + ['{"closed":"Abandoned"}', '{"end":true}']
+    before = 'was left in Idle (nothing reported since its start): go and look'
+    for name, end, more, wanted in (
+            ('running', stop, [], ['heat of K11 was left in Execute: go and look', 'stir of K11 was left in']),
+            ('at rest', stop, [heat.replace('"StateCur":64', '"StateCur":131072')], ['stir of K11 was left in']),
+            ('just started', 9, [], ['stir of K11 ' + before, 'heat of K11 ' + before])):
+        lines = journal[:end] + more + ['{"ev":"abandon","at":99,"batch":"red"}']
+        told = answers[:end] + ['{"done":true}'] * len(more) + ['{"closed":"Abandoned"}', '{"end":true}']
         checks.open(checks.kept('given-up', '\n'.join(lines) + '\n'),
                     checks.kept('given-up.answers', '\n'.join(told) + '\n'))
         found = checks.run(TOLD % '#alarms')
         is_told = len(found) == len(wanted) and all(any(text.startswith(each) for text, _ in found) for each in wanted)
         checks.that('abandoned: heat %s' % name, is_told, found)
+    checks.press('language')
+    checks.says('abandoned, in German', 'alarms', 'in Idle (seit dem Start nichts gemeldet) verlassen: nachsehen')
+    checks.press('language')
 
 
 def check_held(checks):

@@ -69,7 +69,8 @@ const labels = {
   stopping: ["Stopping, Stopped, or asked to stop", "Stopping, Stopped, oder soll stoppen"],
   leftRunning: ["left running: go and look", "laufend verlassen: nachsehen"],
   leftIn: ["! {0} of {1} left in {2}", "! {0} von {1} in {2} verlassen"],
-  beforeItsStart: ["{0}, nothing reported since its start", "{0}, seit dem Start nichts gemeldet"],
+  beforeItsStart: ["{0} (nothing reported since its start)", "{0} (seit dem Start nichts gemeldet)"],
+  unreportedState: ["an unreported state", "ungemeldetem Zustand"],
   node: ["arm or loop decided", "Zweig oder Schleife entschieden"],
   ended: ["end of the batch", "Ende der Charge"],
   noBatch: ["No batch was started.", "Keine Charge wurde gestartet."],
@@ -90,7 +91,7 @@ const labels = {
   // Alarms.
   brokenBatch: ["batch {0} broke: step {1} found its service in {2}",
     "Charge {0} brach: Schritt {1} fand seinen Dienst in {2}"],
-  leftAlarm: ["{0} of {1} was left in {2}: go and look", "{0} von {1} wurde in {2} verlassen: nachsehen"],
+  leftAlarm: ["{0} of {1} was left in {2:left}: go and look", "{0} von {1} wurde in {2:left} verlassen: nachsehen"],
   notHeld: ["{0} of {1} runs on in {2}, though its batch is to hold: go and look",
     "{0} von {1} läuft in {2} weiter, obwohl die Charge halten soll: nachsehen"],
   closedBatch: ["batch {0} was closed as {1}", "Charge {0} endete als {1}"],

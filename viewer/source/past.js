@@ -137,8 +137,7 @@ const past = (() => {
       this.alarmLeft(at, batch, batch.left[batch.left.length - 1]);
     }
     alarmLeft(at, batch, own) {
-      this.alarm(at, "left", { batch: batch.name, tag: own.tag }, "leftAlarm", own.service, own.tag,
-        words.leftState(own));
+      this.alarm(at, "left", { batch: batch.name, tag: own.tag }, "leftAlarm", own.service, own.tag, own);
     }
     // An abandon sends nothing: a step that is active then goes on, unless its service was reported at rest since it
     // was started.

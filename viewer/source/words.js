@@ -17,6 +17,7 @@ const words = (() => {
     watch: watch => (watch ? say("watches", listed(watch)) : ""),
     answer: given => (given ? answer(given) : "?"),
     place: at => entryAt(at),
+    left: own => leftState(own),
     who: person => (typeof person === "string" ? person : say("anOperator")),
     values: values => (Array.isArray(values) && values.length ? values.join(", ") : say("byNothing")),
   };
@@ -51,7 +52,7 @@ const words = (() => {
   const left = own => say("leftIn", own.service, own.tag, leftState(own));
   // In which state it was left: as reported last, if it was, and perhaps before it was started.
   function leftState({ state, isBefore }) {
-    if (state === null) return say("unreported");
+    if (state === null) return say("unreportedState");
     return isBefore ? say("beforeItsStart", SAID.state(state)) : SAID.state(state);
   }
   // Which number an entry has is told by its history, which counts as an audit does: what is no entry has its line's.
