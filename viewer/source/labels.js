@@ -160,9 +160,9 @@ const labels = {
     + "the batch lines. {1}",
     "Das Audit über {0} Einträge ist gut: jede Antwort ist die, die aus den Ereignissen folgt, die dastehen, ebenso "
     + "die Zeilen der Chargen. {1}"],
-  auditLacks: ["It doesn't check stamps, names, recipes with their settings and limits, what modules reported, nor "
+  auditLacks: ["It doesn't check stamps, names, recipes with their settings and limits, whether reports are true, nor "
     + "whether lines were left out, put in or moved.",
-    "Es prüft weder Stempel, Namen, Rezepte mit ihren Einstellungen und Grenzen noch, was Module meldeten, noch ob "
+    "Es prüft weder Stempel, Namen, Rezepte mit ihren Einstellungen und Grenzen noch, ob Meldungen stimmen, noch ob "
     + "Zeilen fehlen, hinzukamen oder den Platz tauschten."],
   otherLength: ["A verdict of {0} came along; here are {1}. It is of another file, and isn't shown.",
     "Ein Urteil über {0} ist dabei; hier sind {1}. Es gilt einer anderen Datei und wird nicht gezeigt."],
