@@ -54,6 +54,7 @@ def check_guard(checks):
     checks.run('page.go(6)')
     checks.says('guard: a denial at the cursor', 'here', 'answered line 7 of 14', 'cat asks drain of MIX1 for Start',
                 "denied by the policy's rule shift-never-drains", 'the plant never saw the command')
+    checks.gives('guard: denied lines are no entries between two', 'page.state.history.entriesIn(5, 12)', 3)
     checks.run('page.go(11)')
     checks.says('guard: an entry behind denials at the cursor', 'here', 'entry 8 of 8', 'line 13')
     checks.choose('chosenRule', 'denied no-abort-by-hand')

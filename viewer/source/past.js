@@ -62,6 +62,8 @@ const past = (() => {
       this.numbers.push(isEntry ? this.own.length : 0);
     }
     isEntry(at) { return this.numbers[at] > 0; }
+    // How many entries stand from one line up to another.
+    entriesIn(from, to) { return spans.below(this.own, to - 1) - spans.below(this.own, from - 1); }
     // The number of an entry; of a line that is none, where it stands in its file.
     placed(at) { return this.isEntry(at) ? { entry: this.numbers[at] } : { line: this.lineOf(at) }; }
     // A text that comes again and again is kept once.

@@ -16,7 +16,7 @@ const reasons = (() => {
       const text = words.say("beforeStart", tag, other, words.entry(from), words.entry(to));
       told.push({ text, at: from, other });
     }
-    for (const each of batch.waited(history.stamps.length, history.stamps)) {
+    for (const each of batch.waited(history)) {
       told.push({ ...each, text: words.answer(each.answer), at: each.first,
         look: words.wait(each.answer.wait, each.answer)?.look });
     }

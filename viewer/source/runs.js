@@ -168,14 +168,15 @@ const runs = (() => {
     }
     waitAt(cursor) { const k = this.waits.span(cursor); return k < 0 ? null : this.reasons[k]; }
     // What it waited for, each reason once: how often, how many entries and stamps in all, and where first.
-    waited(count, stamps) {
-      const found = new Map();
+    waited(history) {
+      const found = new Map(), { stamps } = history, count = stamps.length;
       this.reasons.forEach((answer, k) => {
         const key = JSON.stringify(answer), from = this.waits.from[k];
         const to = this.waits.to[k] < 0 ? count - 1 : this.waits.to[k];
         if (!found.has(key)) found.set(key, { answer, times: 0, entries: 0, lasted: 0, first: from });
         const own = found.get(key);
-        own.times += 1; own.entries += to - from; own.lasted += stamps[Math.min(to, stamps.length - 1)] - stamps[from];
+        own.times += 1; own.entries += history.entriesIn(from, to);
+        own.lasted += stamps[Math.min(to, stamps.length - 1)] - stamps[from];
       });
       return [...found.values()];
     }
