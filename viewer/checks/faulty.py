@@ -28,9 +28,28 @@ def check_verdicts(checks):
     checks.open(checks.kept('wrong', ''.join(lines) + verdict))
     checks.gives('a bad verdict is a red seal', SEAL, 'bad')
     checks.says('which says where and what', 'seal', 'entry 11 of 113', 'refused: ModeForbids')
-    checks.gives('its place is in the list', "page.state.history.alarms.find(each => each.key === 'auditHere').at", 10)
+    doubts = "page.state.history.alarms.filter(each => each.key.startsWith('audit')).map(each => each.at)"
+    checks.gives('its place is in the list', doubts, [10])
+    checks.says('in plain words', 'alarms', 'the audit finds this answer wrong; it should be: refused: ModeForbids')
+    check_batch_line(checks)
     check_other_verdicts(checks)
     check_named(checks)
+
+
+def check_batch_line(checks):
+    """A wrong line of a batch is told by its number and its batch, and is a deviation of that batch."""
+    lines = site_lines(checks)[:-1]
+    row = next(k for k, line in enumerate(lines) if '"batch":"evening"' in line and '"outcome"' in line)
+    lines[row] = lines[row].replace('Completed', 'Broken')
+    checks.open(checks.kept('wrong', ''.join(lines) + '{"audit":"bad","place":%d,"why":"Tail"}\n' % row))
+    checks.says('a wrong batch line is told', 'seal', 'audit: wrong · line %d' % (row + 1), 'the line of batch evening')
+    for batch, wanted in (('evening', True), ('morning', False)):
+        checks.choose('chosenBatch', batch)
+        checks.run("dispatchEvent(new Event('beforeprint'))")
+        rows = checks.run("document.querySelector('#paper table.deviations')?.textContent ?? ''")
+        is_there = 'the audit finds line %d wrong: the line of batch evening' % (row + 1) in rows
+        checks.same('and is a deviation of its batch: ' + batch, is_there, wanted)
+        checks.run("dispatchEvent(new Event('afterprint'))")
 
 
 def check_named(checks):
@@ -43,13 +62,36 @@ def check_named(checks):
         checks.open(checks.example('site.history.jsonl'), checks.kept('attest', verdict + read))
         checks.gives('a verdict that names its file is %s' % style, SEAL, style)
         if style == 'none':
-            checks.says('and one of another file is told', 'faults', "that isn't here", "isn't shown")
+            checks.says('and one of another file is told', 'faults', hashlib.sha256(other).hexdigest(),
+                        "that isn't here", "isn't shown")
+            checks.that('not by its size', str(len(other)) not in checks.text('faults'), checks.text('faults'))
+            checks.run("dispatchEvent(new Event('beforeprint'))")
+            checks.that('nor as a line at fault', 'Lines at fault' not in checks.text('paper'))
+            checks.run("dispatchEvent(new Event('afterprint'))")
         else:
             checks.says('and the seal says of which', 'seal', 'of site.history.jsonl, whose size and SHA-256')
     checks.open(checks.example('site.history.jsonl'), checks.data('blend.answers'), checks.example('blend.jsonl'),
                 checks.kept('attest', good + '{"bytes":%d,"sha256":"%s"}\n'
                             % (len(history), hashlib.sha256(history).hexdigest())))
     checks.gives('nor is it shown where more came along than its file', SEAL, 'none')
+    swapped = history[:-20] + bytes(reversed(history[-20:]))
+    read = '{"bytes":%d,"sha256":"%s"}\n' % (len(swapped), hashlib.sha256(swapped).hexdigest())
+    checks.open(checks.example('site.history.jsonl'), checks.kept('attest', good + read))
+    checks.says('two files of one size are told by their sums', 'faults', hashlib.sha256(swapped).hexdigest(),
+                'site.history.jsonl, which is of that size, has the SHA-256 ' + hashlib.sha256(history).hexdigest())
+    check_operated_verdict(checks)
+
+
+def check_operated_verdict(checks):
+    """What has a policy, a name, a question or a denial isn't the file that an audit took."""
+    named = made.text([{'answer': {'done': True}, 'by': 'mia', 'event': {'ev': 'unplug', 'at': 1, 'tag': 'M'}}])
+    for name, count, files in (('under a policy', 8, [checks.example('policy.jsonl'), checks.data('policy.answers')]),
+                               ('operated', 6, [checks.example('operated.jsonl'), checks.data('operated.answers')]),
+                               ('with names', 1, [checks.kept('named', named)])):
+        verdict = checks.kept('verdict', '{"audit":"good","entries":%d}\n' % count)
+        checks.open(verdict, *files)
+        checks.gives('a verdict beside lines %s is no seal' % name, SEAL, 'none')
+        checks.says('and is told to be of another file: ' + name, 'faults', "can't be of these lines", 'another file')
 
 
 def check_other_verdicts(checks):
@@ -69,9 +111,10 @@ def check_other_verdicts(checks):
         checks.open(checks.kept('other', history + verdict + '\n'))
         checks.gives('a verdict %s is no seal' % name, SEAL, 'none')
         checks.says('and is told: ' + name, 'faults', *texts)
-        checks.gives('and doubts no entry', "page.state.history.alarms.some(each => each.key === 'auditHere')", False)
+        doubts = "page.state.history.alarms.some(each => each.key.startsWith('audit'))"
+        checks.gives('and doubts no entry', doubts, False)
     checks.run("dispatchEvent(new Event('beforeprint'))")
-    checks.is_true('nor on paper', "!document.getElementById('paper').innerText.includes('found 113 entries true')")
+    checks.is_true('nor on paper', "!document.getElementById('paper').innerText.includes('113 entries is good')")
     checks.run("dispatchEvent(new Event('afterprint'))")
     good = '{"audit":"good","entries":113}\n'
     checks.open(checks.kept('two', history + cases[0][1] + '\n' + good))

@@ -1,7 +1,9 @@
 """What the jobs guard, find, keep and demo leave: drawn, or told what it is; and what is said where the files can't
 tell."""
+import json
 import tempfile
 
+import made
 import told
 
 ROWS = "[...document.querySelectorAll('%s tbody tr')].map(row => [...row.cells].map(cell => cell.innerText))"
@@ -16,11 +18,12 @@ DENIED = (('denied policy', '2', 'No rule of the policy allows it', 'asked by da
           ('no-abort-by-hand policy', '2', 'in the policy: Who: everybody · Command: Abort', 'asked by ann, dan'),
           ('shift-never-drains policy', '1', 'in the policy: Who: shift · Service: drain', 'asked by cat'),
           ('StateForbids 31', '1', 'wait for another state', 'asked by ben'))
-ASKED = ((6, 'ann asked dose of DOS1 for Start: permitted'),
-         (7, "cat asked drain of MIX1 for Start: denied by the policy's rule shift-never-drains"),
-         (9, 'dan asked dose of DOS1 for Start: denied, no rule of the policy allows it'),
-         (12, 'ben asked dose of DOS1 for Hold: refused, StateForbids'),
-         (14, 'an operator asked stir of MIX1 for Start, in a line at fault'))
+# Entries are counted as an audit counts them; what is none has its line's number.
+ASKED = (('6', 'ann asked dose of DOS1 for Start: permitted'),
+         ('line 8', "cat asked drain of MIX1 for Start: denied by the policy's rule shift-never-drains"),
+         ('line 10', 'dan asked dose of DOS1 for Start: denied, no rule of the policy allows it'),
+         ('8', 'ben asked dose of DOS1 for Hold: refused, StateForbids'),
+         ('line 15', 'an operator asked stir of MIX1 for Start, in a line at fault'))
 
 
 def check(checks):
@@ -31,6 +34,8 @@ def check(checks):
     check_operated(checks)
     check_finder(checks)
     check_kept(checks)
+    check_operated_file(checks)
+    check_entries(checks)
     check_nothing(checks)
 
 
@@ -45,19 +50,23 @@ def check_guard(checks):
     checks.says('guard: a denied command is no entry', 'counts', '8 entries', '5 denied', '1 line at fault')
     alarms = checks.run(ROWS % '#alarms')
     for entry, text in ASKED:
-        checks.that('guard: the reviewer sees who asked: %d' % entry, [str(entry), text] in alarms, alarms)
+        checks.that('guard: the reviewer sees who asked: %s' % entry, [entry, text] in alarms, alarms)
     checks.run('page.go(6)')
     checks.says('guard: a denial at the cursor', 'here', 'answered line 7 of 14', 'cat asks drain of MIX1 for Start',
                 "denied by the policy's rule shift-never-drains", 'the plant never saw the command')
+    checks.gives('guard: denied lines are no entries between two', 'page.state.history.entriesIn(5, 12)', 3)
+    checks.run('page.go(11)')
+    checks.says('guard: an entry behind denials at the cursor', 'here', 'entry 8 of 8', 'line 13')
     checks.choose('chosenRule', 'denied no-abort-by-hand')
     checks.gives('guard: a rule of the policy can be chosen', 'page.entries.count', 2)
+    checks.same('guard: and its lines are no entries', checks.text('rows'), '2 lines that are no entries')
     checks.choose('chosenRule', '')
     marks = "page.state.history.modules.get('MIX1').services.get('stir').lane.mark"
     checks.gives('guard: a denial is marked in its lane', marks, ['refused'] * 3)
     checks.run(PAPER % 'before')
     printed = [[row[0], *row[2:4]] for row in checks.run(PRINTED % 'Commands of operators')]
-    wanted = (['7', 'cat', 'Start: drain, MIX1'], ['12', 'ben', 'Hold: dose, DOS1'],
-              ['14', 'not named', 'Start: stir, MIX1'])
+    wanted = (['line 8', 'cat', 'Start: drain, MIX1'], ['8', 'ben', 'Hold: dose, DOS1'],
+              ['line 15', 'not named', 'Start: stir, MIX1'])
     for row in wanted:
         checks.that('guard: who asked stands on paper: %s' % row, row in printed, printed)
     checks.says('guard: and the rule', 'paper', 'no-abort-by-hand', 'asked by ann, dan')
@@ -180,6 +189,67 @@ def check_kept(checks):
             run('keep', journal.read_bytes(), folder)
             made_now = (checks.folder.__class__(folder) / 'pol.journal').read_bytes()
         checks.that("a kept file: the stored one is the program's", made_now == whole)
+
+
+def check_operated_file(checks):
+    """The file of an operated plant is drawn as the journal that it is, with who gave each event."""
+    stored = checks.repository / 'viewer' / 'checks' / 'data' / 'pol.plant'
+    whole = stored.read_bytes()
+    checks.open(stored)
+    checks.gives('an operated file: its events', 'page.state.found.events.length', 6)
+    checks.gives('an operated file: no line is at fault', 'page.state.found.faults.length', 0)
+    checks.says('an operated file: what it is, and lacks', 'faults', 'pol.plant is the file of an operated plant',
+                'with 6 events, begun by pol 1.0.0', 'no answers and none of the lines that the policy denied',
+                "doesn't check its sums", 'as if each had been accepted')
+    checks.gives('an operated file: who gave them', '[...page.state.history.people]', [[3, 'ann'], [5, 'ann']])
+    checks.press('language')
+    checks.says('an operated file in German', 'faults', 'die Datei einer bedienten Anlage', 'prüft ihre Summen nicht')
+    checks.press('language')
+    checks.open(kept_file(checks, 'half.plant', whole[:-40]))
+    checks.says('an operated file that is cut is told', 'faults', 'behind event 5, from byte %d on' % cut_at(whole, 6))
+    checks.gives('and the events before it', 'page.state.found.events.length', 5)
+    checks.open(kept_file(checks, 'header.plant', whole[:cut_at(whole, 1)] + b'\0'))
+    checks.says('an operated file without events', 'faults', 'with 0 events', 'begun by pol 1.0.0')
+    run = told.program_of(checks)
+    if run:
+        with tempfile.TemporaryDirectory() as folder:
+            run('operate', checks.example('operated.jsonl').read_bytes(), folder)
+            made_now = (checks.folder.__class__(folder) / 'pol.plant').read_bytes()
+        checks.that("an operated file: the stored one is the program's", made_now == whole)
+
+
+def cut_at(whole, count):
+    """Where the record behind so many records begins."""
+    at = 0
+    for _ in range(count):
+        at += 9 + int.from_bytes(whole[at + 1:at + 9], 'big')
+    return at
+
+
+ENTRIES = ({'answer': {'done': True}, 'event': {'ev': 'plug', 'at': 1, 'tag': 'M', 'desc': {
+    'type': 'Doser', 'version': '1.0.0', 'services': [{'name': 'do"se]}'}]}}},
+           {'answer': {'refused': 30, 'rule': 'ModeForbids'}, 'by': 'mia', 'event': {
+               'ev': 'desk', 'at': 2, 'tag': 'M', 'service': 'do"se]}', 'CommandOp': 8}})
+
+
+def check_entries(checks):
+    """Entries as an operated plant is asked for them: a line each, or all in the line of the answer; with who gave
+    them."""
+    line = json.dumps({'entries': ENTRIES}) + '\n'
+    output = '{"kept":2,"sum":"00"}\n' + line + '{"end":true,"sum":"00"}\n'
+    question = '{"groups":[],"rules":[],"lines":[]}\n{"ask":"entries","from":0}\n'
+    alone = checks.kept('entries', made.text(ENTRIES))
+    for name, files in (('a line each', [alone]), ('in one line', [checks.kept('entries', line)]),
+                        ('in an output', [checks.kept('output', output)]),
+                        ('beside the question', [checks.kept('asked', question), checks.kept('output', output)])):
+        checks.open(*files)
+        checks.gives('entries %s: all are drawn' % name, 'page.state.found.length', 2)
+        checks.says('entries %s: who gave one' % name, 'alarms', 'mia asked do"se]} of M for Stop: refused')
+        faults = checks.text('faults')
+        checks.that('entries %s: what they are is told' % name, faults.startswith('These are entries that an operated')
+                    and 'end line' not in faults, faults)
+    checks.open(checks.example('operated.jsonl'), checks.data('operated.answers'))
+    checks.gives('beside their events they are drawn once', 'page.state.found.length', 11)
 
 
 def check_nothing(checks):

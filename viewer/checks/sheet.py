@@ -28,6 +28,7 @@ BREAKS = {'#paper h2': ('breakAfter', 'avoid'), '#paper tr': ('breakInside', 'av
 def check(checks):
     check_stored(checks)
     check_kinds(checks)
+    check_by_hand(checks)
     check_warnings(checks)
     check_build(checks)
     check_recipe(checks)
@@ -81,7 +82,8 @@ def check_kinds(checks):
             ('red', broken, ['batch red broke: step stir found its service in Aborted / Stop is asked for: heat of K11',
                              'broke in Aborted / entry 43', 'an operator asked stir of K11 for Abort: permitted']),
             ('blue', broken, ['batch blue was frozen / batch blue is to go on / entry 74']),
-            ('green', broken, ['not ended when the batch was closed', 'batch green was closed as Abandoned',
+            ('green', broken, ['left in Paused: go and look / entry 99', 'batch green was closed as Abandoned',
+                       'Abandoned / ! heat of K13 left in Paused', 'heat of K13 was left in Paused: go and look | ',
                                'heat of K13 was reported in Pausing / heat of K13 was reported in Paused / entry 97']),
             ('', [checks.data('holding'), checks.data('holding.answers')],
              ['Closed | not closed at the end of the files', 'entry 4 · stamp 4 · line given by: not named',
@@ -89,6 +91,22 @@ def check_kinds(checks):
         checks.open(*files)
         told = words_of(checks, batch)
         checks.same('sheet of %s: what the stored ones lack' % (batch or 'b'), [t for t in texts if t not in told], [])
+
+
+def check_by_hand(checks):
+    """What an operator held stands with that command, not with a freeze that didn't reach it."""
+    journal, answers = (file.read_text().splitlines() for file in signed(checks))
+    row = answers.index('{"wait":"Frozen"}', 50)
+    report = json.loads(next(line for line in journal if '"Mode":"Operator"' in line))
+    heat = [json.dumps(dict(report, StateCur=code)) for code in (1024, 2048)]
+    desk = '{"ev":"desk","at":1795932246000,"by":"ann","tag":"K11","service":"heat","CommandOp":16}'
+    asked = '{"did":{"command":16,"do":"asked","service":"heat","tag":"K11"}}'
+    checks.open(checks.kept('hand', '\n'.join(journal[:row + 2] + [desk, *heat])),
+                checks.kept('hand.answers', '\n'.join(answers[:row + 1] + [asked] + ['{"done":true}'] * 2)))
+    rows = [line for line in words_of(checks).splitlines() if 'reported in Held' in line]
+    by_hand = 'ann asked heat of K11 for Hold: permitted / heat of K11 was reported in Holding / entry 56'
+    checks.that('held by hand: with the command', by_hand in rows[-1] and 'in Held / entry 57' in rows[-1], rows)
+    checks.that('and the freeze has its own', 'stir of K11' in rows[0] and 'heat' not in rows[0], rows)
 
 
 def row_of(file):
@@ -150,9 +168,9 @@ def check_names(checks):
     for text in ('Started | entry 11 · 2026-11-29 06:00:36.500 UTC · line given by: cleo',
                  'Recipe made known | entry 1 · 2026-11-29 06:00:04.000 UTC · line given by: hal',
                  '12 | 2026-11-29 06:00:38.000 UTC | dan | Start is asked for: dose of T1',
-                 '70 | 2026-11-29 06:06:03.500 UTC | finn | batch blue is to stop',
+                 '68 | 2026-11-29 06:06:03.500 UTC | finn | batch blue is to stop',
                  'entry 36 / 2026-11-29 06:01:40.500 UTC / gus | T1 was exchanged',
-                 'entry 57 · 2026-11-29 06:05:05.500 UTC · eva'):
+                 'entry 55 · 2026-11-29 06:05:05.500 UTC · eva'):
         checks.that('whose line it was: ' + text[-40:], text in told, told)
     checks.that('and who was asked twice', told.count('cleo') == 3, told.count('cleo'))
     checks.says('the reviewer is told too', 'alarms', 'batch blue was asked to stop (by finn)',

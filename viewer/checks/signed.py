@@ -52,6 +52,7 @@ def check_one_batch(checks):
 def check_verdict(checks):
     checks.open(checks.data('site'))
     to_paper(checks, 'before')
-    checks.says('paper: the verdict in words', 'paper', 'The job audit found 113 entries true',
+    checks.says('paper: the verdict in words', 'paper', 'The audit of 113 entries is good',
+                'follows from the events given', "doesn't check stamps, names, recipes with their settings",
                 'The verdict names no file')
     to_paper(checks, 'after')

@@ -20,7 +20,7 @@ def check(checks):
     checks.that('nothing that is proved stands in viewer/', not proved, proved)
     checks.that('no large file stands in viewer/', all(path.stat().st_size < 100_000 for path in files))
     for path in sorted(files):
-        if path.name == 'docs.js' or path.suffix in ('.jsonl', '.journal', '.txt'):
+        if path.name == 'docs.js' or path.suffix in ('.jsonl', '.journal', '.plant', '.txt'):
             continue
         lines = path.read_text().splitlines()
         wide = [k + 1 for k, line in enumerate(lines) if len(line) > WIDE and 'Content-Security' not in line]

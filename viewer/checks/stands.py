@@ -14,6 +14,7 @@ LISTED = """[...document.querySelectorAll('#still li')].map(each => [...each.que
     each.querySelector('span:not(.small)'), each.querySelector('b.again')].map(part => part?.textContent ?? ''))"""
 RED = 'rgb(193, 22, 35)'
 LEFT = 'heat of K11 was left in Execute: go and look'
+TOLD = "[...document.querySelectorAll('%s b.left')].map(each => [each.textContent, getComputedStyle(each).color])"
 PAPER = "dispatchEvent(new Event('%sprint'))"
 # Colours of the steps in the chart, by their names.
 FILLS = """Object.fromEntries([...document.querySelectorAll('#chart .step')]
@@ -24,6 +25,7 @@ SEEN = re.compile(r'\b(sent|sends|goes to|gesandt|sandte|geht an)\b')
 
 def check(checks):
     check_left(checks)
+    check_abandoned(checks)
     check_held(checks)
     check_permitted(checks)
     check_still(checks)
@@ -42,15 +44,49 @@ def check_left(checks):
     checks.gives('and a sign', "document.querySelectorAll('#chart .warning').length", 1)
     checks.says('it is told beside the outcome', 'outcomes', 'Stopped', '! heat of K11 left in Execute')
     checks.says('and in the chart', 'under', 'Stopped', '! heat of K11 left in Execute')
-    told = "[...document.querySelectorAll('%s b.left')].map(each => [each.textContent, getComputedStyle(each).color])"
-    checks.gives('and in red for the reviewer', told % '#alarms', [[LEFT, RED]])
+    checks.gives('and in red for the reviewer', TOLD % '#alarms', [[LEFT, RED]])
     mark = "page.state.history.batches.get('red').lane.mark.filter(each => each === 'left').length"
     checks.gives('and marked in its lane', mark, 1)
     checks.run(PAPER % 'before')
     checks.says('and on paper', 'paper', LEFT, '! heat of K11 left in Execute')
     checks.run(PAPER % 'after')
     checks.open(checks.data('broken'), checks.data('broken.answers'))
+    checks.choose('chosenBatch', 'red')
     checks.gives('what was left at rest is no alarm', "document.querySelectorAll('#alarms b.left').length", 0)
+
+
+def check_abandoned(checks):
+    """An abandon sends nothing: a step that is active then is told like one that was left, unless its service was
+    reported at rest since its start."""
+    checks.open(checks.data('broken'), checks.data('broken.answers'))
+    text = 'heat of K13 was left in Paused: go and look'
+    checks.gives('what an abandon left is in red for the reviewer', TOLD % '#alarms', [[text, RED]])
+    checks.says('and beside the outcome', 'outcomes', 'Abandoned! heat of K13 left in Paused')
+    checks.run('page.go(98)')
+    checks.gives('with a sign in the chart', "document.querySelectorAll('#chart .step.left .warning').length", 1)
+    checks.run('page.go(97)')
+    checks.gives('but not before', "document.querySelectorAll('#chart .step.left').length", 0)
+    marks = "page.state.history.batches.get('green').lane.mark.filter(each => each === 'left').length"
+    checks.gives('and marked in its lane', marks, 1)
+    journal, answers = (file.read_text().splitlines() for file in (checks.data('left'), checks.data('left.answers')))
+    stop = next(k for k, line in enumerate(journal) if '"stop"' in line)
+    running = [line for line in journal[:stop] if '"ev":"report"' in line and '"StateCur":64' in line]
+    heat = next(line for line in running if '"heat"' in line)
+    before = 'was left in Idle (nothing reported since its start): go and look'
+    for name, end, more, wanted in (
+            ('running', stop, [], ['heat of K11 was left in Execute: go and look', 'stir of K11 was left in']),
+            ('at rest', stop, [heat.replace('"StateCur":64', '"StateCur":131072')], ['stir of K11 was left in']),
+            ('just started', 9, [], ['stir of K11 ' + before, 'heat of K11 ' + before])):
+        lines = journal[:end] + more + ['{"ev":"abandon","at":99,"batch":"red"}']
+        told = answers[:end] + ['{"done":true}'] * len(more) + ['{"closed":"Abandoned"}', '{"end":true}']
+        checks.open(checks.kept('given-up', '\n'.join(lines) + '\n'),
+                    checks.kept('given-up.answers', '\n'.join(told) + '\n'))
+        found = checks.run(TOLD % '#alarms')
+        is_told = len(found) == len(wanted) and all(any(text.startswith(each) for text, _ in found) for each in wanted)
+        checks.that('abandoned: heat %s' % name, is_told, found)
+    checks.press('language')
+    checks.says('abandoned, in German', 'alarms', 'in Idle (seit dem Start nichts gemeldet) verlassen: nachsehen')
+    checks.press('language')
 
 
 def check_held(checks):
@@ -63,6 +99,31 @@ def check_held(checks):
     checks.says('with what runs on', 'alarms', 'heat of K11 runs on in Execute, though its batch is to hold')
     checks.open(checks.data('holding'), checks.data('holding.answers'))
     checks.gives('one that reached all is no alarm', told, [])
+    check_held_unasked(checks)
+
+
+def check_held_unasked(checks):
+    """Where no advance was answered Frozen, what a hold didn't reach is told by the reports: at a thaw, a close and the
+    end, since the freeze. What may be held is none of it, nor what was held."""
+    told = """page.state.history.alarms.filter(each => each.key === 'notHeld').map(each => each.at + 1)"""
+    files = checks.data('signed'), checks.data('signed.answers')
+    journal, answers = (file.read_text().splitlines() for file in files)
+    asked = answers.index('{"wait":"Frozen"}', 50)
+    journal, answers = journal[:asked + 1] + journal[asked + 2:], answers[:asked] + answers[asked + 1:]
+    heat = next(k for k, line in enumerate(journal) if '"Mode":"Operator"' in line)
+    close = ['{"ev":"abandon","at":1,"batch":"blue"}'], ['{"closed":"Abandoned"}', '{"end":true}']
+    for name, end, more, mode, wanted in (('a thaw', None, ([], []), 'Operator', [52]),
+                                          ('a close', asked, close, 'Operator', [52]),
+                                          ('the end', asked, ([], ['{"end":true}']), 'Operator', [52]),
+                                          ('the end, where it may be held', asked, ([], []), 'Automatic', [])):
+        lines = journal[:heat] + [journal[heat].replace('"Operator"', '"%s"' % mode)] + journal[heat + 1:]
+        files = [lines[:end and end + 1] + more[0], answers[:end] + more[1]]
+        checks.open(*(checks.kept('unasked-%d' % k, '\n'.join(each) + '\n') for k, each in enumerate(files)))
+        checks.gives('a hold that fell short by reports: ' + name, told, wanted)
+        if name == 'the end':
+            ends = "[...document.querySelectorAll('#still b.left')].map(each => [each.textContent, " \
+                'getComputedStyle(each).color])'
+            checks.gives('and its branch says so in red', ends, [["the hold doesn't reach it: go and look", RED]])
 
 
 def check_permitted(checks):

@@ -61,22 +61,25 @@ const awaited = (() => {
     const phase = words.say(own.completes && own.phase === "on" ? "phase_finish" : `phase_${own.phase}`);
     const isRead = node.finish && own.phase === "on" && !own.completes;
     const read = isRead ? condition(place.told(node.finish), place.values(node.finish)) : [];
-    const isUnheld = batch.frozen && own.phase === "on" && batch.unheld?.some(each => each.step === node.step);
-    return [`${node.step}: ${phase}`, reported(tag, node.service, module, cursor), ...read, lacking(node, own, last),
-      isUnheld ? words.say("unheld") : ""];
+    const isMissed = batch.missed.has(node.step) || batch.unheld?.some(each => each.step === node.step);
+    const isUnheld = batch.frozen && own.phase === "on" && isMissed;
+    return { parts: [`${node.step}: ${phase}`, reported(tag, node.service, module, cursor), ...read,
+      lacking(node, own, last)], warning: isUnheld ? words.say("unheld") : "" };
   }
   function ofNode(node, number, place) {
     const conditions = recipes.conditions(node), told = conditions.map(place.told);
     const values = new Map(conditions.flatMap(place.values));
     const text = told.length === 1 ? told[0] : told.map((each, arm) => `${arm}: ${each}`).join("; ");
-    return [words.say(node.sel ? "armOpen" : "loopOpen", number), ...condition(text, [...values])];
+    const parts = [words.say(node.sel ? "armOpen" : "loopOpen", number), ...condition(text, [...values])];
+    return { parts, warning: "" };
   }
-  // A line for each node at which the batch stands. A place says how conditions and values are said there.
+  // A line for each node at which the batch stands, and what is to be looked at there. A place says how conditions and
+  // values are said there.
   function told(batch, history, cursor, place) {
     return at(batch, cursor).map(node => {
-      const parts = "step" in node ? ofStep(node, batch, history, cursor, place)
+      const { parts, warning } = "step" in node ? ofStep(node, batch, history, cursor, place)
         : ofNode(node, batch.known.numbers.get(node), place);
-      return words.visible(parts.filter(part => part).join(" · "));
+      return { text: words.visible(parts.filter(part => part).join(" · ")), warning };
     });
   }
   return { at, keys, told, condition };

@@ -54,7 +54,8 @@ const axis = (() => {
     offset() { return this.byStamp ? this.stamps[0] : 1; }
     label(value, step) {
       const shown = Math.round(value + this.offset());
-      if (!this.byStamp || !words.isTime(shown)) return words.number(shown);
+      if (!this.byStamp) return words.tick(shown - 1);
+      if (!words.isTime(shown)) return words.number(shown);
       return new Date(shown).toISOString().slice(11, step >= SECOND ? 19 : 23);
     }
   }

@@ -46,8 +46,9 @@ const here = (() => {
   }
   function entry(holder, found, history, view) {
     const at = view.cursor, [event, answer] = found.entry(at), stamp = event?.at;
-    const key = history.entries === view.count ? "entryOf" : "answerOf";
-    const place = [words.say(key, words.number(at + 1), words.number(view.count)),
+    const number = history.placed(at).entry, place = [number
+      ? words.say("entryOf", words.number(number), words.number(history.entries))
+      : words.say("answerOf", words.number(at + 1), words.number(view.count)),
       words.say("atLine", words.number(found.line(at)))];
     if (stamp !== undefined) place.push(words.stamp(stamp));
     const kindOf = (tag, name) => history.kindAt(tag, name, at);

@@ -8,18 +8,19 @@ const labels = {
   print: ["Print", "Drucken"], printSheet: ["Print the sheet to sign", "Blatt zum Unterschreiben drucken"],
   drop: ["Drop here what pol wrote", "Hier ablegen, was pol schrieb"],
   dropMore: ["The output of the job plant, or a journal with the output of the job replay, keep, guard or operate. "
-    + "The output of find, the verdict of audit or attest and the site may come along. A pol.journal is read too. "
-    + "The files stay on this machine.",
+    + "The output of find, the verdict of audit or attest and the site may come along. A pol.journal and a pol.plant "
+    + "are read too. The files stay on this machine.",
     "Die Ausgabe von plant, oder ein Journal mit der Ausgabe von replay, keep, guard oder operate. Was find sagt, "
-    + "das Urteil von audit oder attest und die Anlage dürfen dabei sein. Auch ein pol.journal wird gelesen. Die Dateien "
-    + "bleiben auf diesem Rechner."],
+    + "das Urteil von audit oder attest und die Anlage dürfen dabei sein. Auch pol.journal und pol.plant werden "
+    + "gelesen. Die Dateien bleiben auf diesem Rechner."],
   notProved: ["This page is no part of what is proved. It draws what the files say and checks nothing.",
     "Diese Seite ist kein Teil dessen, was bewiesen ist. Sie zeichnet, was die Dateien sagen, und prüft nichts."],
   batches: ["Batches", "Chargen"], modules: ["Modules", "Module"], cursor: ["At the cursor", "Am Cursor"],
   recipe: ["Recipe", "Rezept"], reviewer: ["For the reviewer", "Für die Prüfung"], entries: ["Entries", "Einträge"],
   refusals: ["What was refused", "Was abgelehnt wurde"], waits: ["What it waited for", "Worauf sie wartete"],
   overview: ["Batches and their outcome", "Chargen und ihr Ausgang"],
-  faults: ["Lines at fault", "Fehlerhafte Zeilen"], legend: ["Legend", "Legende"],
+  faults: ["Lines at fault", "Fehlerhafte Zeilen"],
+  ofFiles: ["What to know of these files", "Was zu diesen Dateien zu wissen ist"], legend: ["Legend", "Legende"],
   overTime: ["Batches over time", "Chargen über die Zeit"],
   modulesOverTime: ["Modules over time", "Module über die Zeit"],
   ruler: ["The whole history, and what is seen of it", "Die ganze Historie, und was davon zu sehen ist"],
@@ -43,6 +44,8 @@ const labels = {
   after: ["After", "Nachher"], line: ["Line", "Zeile"], stamp: ["Stamp", "Stempel"],
   // Numbers of things.
   nEntries: ["{0} entries", "{0} Einträge"], n1Entries: ["1 entry", "1 Eintrag"],
+  nOthers: ["{0} lines that are no entries", "{0} Zeilen, die keine Einträge sind"],
+  n1Others: ["1 line that is no entry", "1 Zeile, die kein Eintrag ist"],
   nBatches: ["{0} batches", "{0} Chargen"], n1Batches: ["1 batch", "1 Charge"],
   nModules: ["{0} modules", "{0} Module"], n1Modules: ["1 module", "1 Modul"],
   nRefused: ["{0} refused", "{0} abgelehnt"], n1Refused: ["1 refused", "1 abgelehnt"],
@@ -66,6 +69,8 @@ const labels = {
   stopping: ["Stopping, Stopped, or asked to stop", "Stopping, Stopped, oder soll stoppen"],
   leftRunning: ["left running: go and look", "laufend verlassen: nachsehen"],
   leftIn: ["! {0} of {1} left in {2}", "! {0} von {1} in {2} verlassen"],
+  beforeItsStart: ["{0} (nothing reported since its start)", "{0} (seit dem Start nichts gemeldet)"],
+  unreportedState: ["an unreported state", "ungemeldetem Zustand"],
   node: ["arm or loop decided", "Zweig oder Schleife entschieden"],
   ended: ["end of the batch", "Ende der Charge"],
   noBatch: ["No batch was started.", "Keine Charge wurde gestartet."],
@@ -86,7 +91,7 @@ const labels = {
   // Alarms.
   brokenBatch: ["batch {0} broke: step {1} found its service in {2}",
     "Charge {0} brach: Schritt {1} fand seinen Dienst in {2}"],
-  leftAlarm: ["{0} of {1} was left in {2}: go and look", "{0} von {1} wurde in {2} verlassen: nachsehen"],
+  leftAlarm: ["{0} of {1} was left in {2:left}: go and look", "{0} von {1} wurde in {2:left} verlassen: nachsehen"],
   notHeld: ["{0} of {1} runs on in {2}, though its batch is to hold: go and look",
     "{0} von {1} läuft in {2} weiter, obwohl die Charge halten soll: nachsehen"],
   closedBatch: ["batch {0} was closed as {1}", "Charge {0} endete als {1}"],
@@ -116,16 +121,26 @@ const labels = {
   frozen: ["batch {0} was frozen", "Charge {0} wurde eingefroren"],
   frozenHolding: ["batch {0} was frozen, and its services are to hold",
     "Charge {0} wurde eingefroren, ihre Dienste sollen halten"],
-  stampsFall: ["stamps fall from entry {0} to entry {1}: {2} to {3}",
-    "Stempel fallen von Eintrag {0} bis Eintrag {1}: {2} bis {3}"],
-  stampsSwapped: ["by their stamps entries {0} and {1} are swapped: {2}, {3}",
-    "nach ihren Stempeln sind die Einträge {0} und {1} vertauscht: {2}, {3}"],
-  stampsMissing: ["stamps are missing between entries {0} and {1}: {2}, {3}",
-    "zwischen den Einträgen {0} und {1} fehlen Stempel: {2}, {3}"],
-  stampsPause: ["far longer than usual nothing stands between entries {0} and {1}: {2}, {3}",
-    "zwischen den Einträgen {0} und {1} steht weit länger als sonst nichts: {2}, {3}"],
-  auditHere: ["the audit stops here, {0}: the answer should be {1:answer}",
-    "das Audit endet hier, {0}: richtig wäre {1:answer}"],
+  stampsFall: ["stamps fall from {0:place} to {1:place}: {2} to {3}",
+    "Stempel fallen von {0:place} bis {1:place}: {2} bis {3}"],
+  stampsSwapped: ["by their stamps {0:place} and {1:place} are swapped: {2}, {3}",
+    "nach ihren Stempeln sind {0:place} und {1:place} vertauscht: {2}, {3}"],
+  stampsMissing: ["stamps are missing between {0:place} and {1:place}: {2}, {3}",
+    "zwischen {0:place} und {1:place} fehlen Stempel: {2}, {3}"],
+  stampsPause: ["the pause between {0:place} and {1:place} is far longer than usual: {2}, {3}",
+    "die Pause zwischen {0:place} und {1:place} ist weit länger als sonst: {2}, {3}"],
+  auditAnswer: ["the audit finds this answer wrong; it should be: {0:answer}",
+    "das Audit findet diese Antwort falsch; richtig wäre: {0:answer}"],
+  auditTooMany: ["the audit stops here: there are more entries than it takes",
+    "das Audit endet hier: es sind mehr Einträge, als es annimmt"],
+  auditLine: ["the audit stops here: this line is no entry as pol writes it",
+    "das Audit endet hier: diese Zeile ist kein Eintrag, wie pol ihn schreibt"],
+  auditBatch: ["the audit finds line {0} wrong: the line of batch {1} isn't the one that follows from the entries, or "
+    + "one is missing before it",
+    "das Audit findet Zeile {0} falsch: die Zeile von Charge {1} ist nicht die, die aus den Einträgen folgt, oder vor "
+    + "ihr fehlt eine"],
+  auditTail: ["the audit finds line {0} wrong: what follows the entries is wrong or missing",
+    "das Audit findet Zeile {0} falsch: was den Einträgen folgt, ist falsch oder fehlt"],
   // Audit.
   notAudited: ["not audited", "nicht geprüft"], auditGood: ["audit: good", "Audit: gut"],
   auditBad: ["audit: wrong", "Audit: falsch"],
@@ -139,16 +154,27 @@ const labels = {
     "Das Urteil gilt der Datei {0} mit der SHA-256 {1}."],
   sealMissing: ["the files have no verdict of the job audit or attest",
     "in den Dateien steht kein Urteil von audit oder attest"],
-  goodWords: ["The job audit found {0} entries true: each answer is the one that looking back in the history gives, "
-    + "and the batch lines follow.",
-    "audit fand {0} Einträge wahr: jede Antwort ist die, die der Blick zurück in die Historie ergibt, und "
-    + "die Zeilen der Chargen folgen."],
+  auditMeans: ["each answer follows from the events given",
+    "jede Antwort folgt aus den Ereignissen, die dastehen"],
+  goodWords: ["The audit of {0} entries is good: each answer is the one that follows from the events given, and so are "
+    + "the batch lines. {1}",
+    "Das Audit über {0} Einträge ist gut: jede Antwort ist die, die aus den Ereignissen folgt, die dastehen, ebenso "
+    + "die Zeilen der Chargen. {1}"],
+  auditLacks: ["It doesn't check stamps, names, recipes with their settings and limits, whether reports are true, nor "
+    + "whether lines were left out, put in or moved.",
+    "Es prüft weder Stempel, Namen, Rezepte mit ihren Einstellungen und Grenzen noch, ob Meldungen stimmen, noch ob "
+    + "Zeilen fehlen, hinzukamen oder den Platz tauschten."],
   otherLength: ["A verdict of {0} came along; here are {1}. It is of another file, and isn't shown.",
     "Ein Urteil über {0} ist dabei; hier sind {1}. Es gilt einer anderen Datei und wird nicht gezeigt."],
-  otherSum: ["A verdict came along over a file of {0} bytes that isn't here, or isn't all of what is here; "
-    + "it isn't shown.",
-    "Ein Urteil über eine Datei von {0} Bytes ist dabei, die nicht hier ist oder nicht alles ist, was hier ist; "
-    + "es wird nicht gezeigt."],
+  otherSum: ["A verdict came along over a file with the SHA-256 {0} that isn't here, or isn't all of what is here; "
+    + "it isn't shown.{1}",
+    "Ein Urteil über eine Datei mit der SHA-256 {0} ist dabei, die nicht hier ist oder nicht alles ist, was hier "
+    + "ist; es wird nicht gezeigt.{1}"],
+  otherSumHere: [" {0}, which is of that size, has the SHA-256 {1}.", " {0}, die so groß ist, hat die SHA-256 {1}."],
+  otherLines: ["A verdict that names no file came along. It can't be of these lines: an audit takes none with a "
+    + "policy, a name (by), a question or a denial. It is of another file, and isn't shown.",
+    "Ein Urteil ist dabei, das keine Datei nennt. Diesen Zeilen kann es nicht gelten: ein Audit nimmt keine mit "
+    + "Richtlinie, Namen (by), Frage oder Verweigerung. Es gilt einer anderen Datei und wird nicht gezeigt."],
   otherPlace: ["A verdict came along that finds entry {0} wrong; here are {1}. It is of another file, and isn't shown.",
     "Ein Urteil ist dabei, nach dem Eintrag {0} falsch ist; hier sind {1}. Es gilt einer anderen Datei und wird nicht "
     + "gezeigt."],
@@ -164,6 +190,10 @@ const labels = {
     "die Antwort ist nicht die, die die Einträge davor ergeben"],
   whyTooMany: ["there are more entries than an audit takes", "es sind mehr Einträge, als ein Audit annimmt"],
   whyTail: ["what follows the entries is wrong or missing", "was den Einträgen folgt, ist falsch oder fehlt"],
+  whyLine: ["this line is no entry as pol writes it, and what follows isn't the end of the entries before it",
+    "diese Zeile ist kein Eintrag, wie pol ihn schreibt, und was folgt, ist nicht das Ende der Einträge davor"],
+  whyBatch: ["the line of batch {0} isn't the one that follows from the entries, or one is missing before it",
+    "die Zeile von Charge {0} ist nicht die, die aus den Einträgen folgt, oder vor ihr fehlt eine"],
   shouldBe: ["it should be: {0}", "richtig wäre: {0}"],
   // Faults of files.
   pairing: ["{0} events and {1} answers: they don't belong together, or one file is cut",
@@ -185,6 +215,20 @@ const labels = {
     "{0} ist die Datei einer gespeicherten Anlage, ohne Ereignisse."],
   keptBroken: ["{0}: behind event {1}, from byte {2} on, it isn't a file that the job keep writes.",
     "{0}: hinter Ereignis {1}, ab Byte {2}, ist es keine Datei, die keep schreibt."],
+  keptOperated: ["{0} is the file of an operated plant, with {1}, begun by {2}. It has no answers and none of the "
+    + "lines that the policy denied, and this page doesn't check its sums: the job operate does.",
+    "{0} ist die Datei einer bedienten Anlage, mit {1}, begonnen von {2}. Sie hat keine Antworten und keine der "
+    + "Zeilen, die die Richtlinie verweigerte, und diese Seite prüft ihre Summen nicht: das tut operate."],
+  operatedBroken: ["{0}: behind event {1}, from byte {2} on, it isn't a file that the job operate writes.",
+    "{0}: hinter Ereignis {1}, ab Byte {2}, ist es keine Datei, die operate schreibt."],
+  noAnswersKept: ["The events are drawn as if each had been accepted. The question entries, put to the operated plant, "
+    + "gives them with their answers.",
+    "Die Ereignisse sind gezeichnet, als wäre jedes angenommen worden. Die Frage entries an die bediente Anlage gibt "
+    + "sie mit ihren Antworten."],
+  entriesAsked: ["These are entries that an operated plant was asked for. The page can't tell whether they are all; "
+    + "none of its denied lines is among them.",
+    "Dies sind Einträge, nach denen eine bediente Anlage gefragt wurde. Ob es alle sind, sieht die Seite nicht; "
+    + "verweigerte Zeilen sind nicht dabei."],
   summary: ["the counts of a demo journal; there is nothing in it to draw",
     "die Zählung eines demo-Journals; darin ist nichts zu zeichnen"],
   oddAnswers: ["answers that can't be of their events: {0}, the first at {1}; the files don't belong together, or one "
@@ -217,13 +261,13 @@ const labels = {
   deniedBy: ["denied by the policy's rule {0}", "verweigert von der Regel {0} der Richtlinie"],
   deniedByNone: ["denied: no rule of the policy allows it", "verweigert: keine Regel der Richtlinie erlaubt es"],
   deniedMore: ["This rule of the policy denies it, so the plant never saw the command and it isn't in the history. "
-    + "Who may give it, the policy says.",
-    "Diese Regel der Richtlinie verweigert es; die Anlage sah den Befehl nie, und er steht nicht in der Historie. Wer "
-    + "ihn geben darf, sagt die Richtlinie."],
+    + "The policy says who may give it.",
+    "Diese Regel der Richtlinie verweigert es; die Anlage sah den Befehl nie, und er steht nicht in der Historie. Die "
+    + "Richtlinie sagt, wer ihn geben darf."],
   deniedByNoneMore: ["No rule of the policy allows it, so the plant never saw the command and it isn't in the "
-    + "history. Who may give it, the policy says.",
-    "Keine Regel der Richtlinie erlaubt es; die Anlage sah den Befehl nie, und er steht nicht in der Historie. Wer ihn "
-    + "geben darf, sagt die Richtlinie."],
+    + "history. The policy says who may give it.",
+    "Keine Regel der Richtlinie erlaubt es; die Anlage sah den Befehl nie, und er steht nicht in der Historie. Die "
+    + "Richtlinie sagt, wer ihn geben darf."],
   inPolicy: ["in the policy: {0}", "in der Richtlinie: {0}"], everybody: ["everybody", "alle"],
   service: ["Service", "Dienst"],
   askedFor: ["asked by {0}", "verlangt von {0}"], who: ["Who", "Wer"],
@@ -315,7 +359,7 @@ const labels = {
   comment: ["Comment, initials, date", "Bemerkung, Kürzel, Datum"],
   noDeviation: ["None stands in the files.", "In den Dateien steht keine."],
   furtherDeviations: ["Further ones, which aren't in the files:", "Weitere, die nicht in den Dateien stehen:"],
-  againAt: ["{0} in all, also at entries {1}", "insgesamt {0}, auch bei den Einträgen {1}"],
+  againAt: ["{0} in all, also at {1}", "insgesamt {0}, auch bei {1}"],
   badNear: ["a line at fault names the batch:", "eine fehlerhafte Zeile nennt die Charge:"],
   cameTo: ["{0} of {1} was reported in {2}", "{0} von {1} wurde in {2} gemeldet"],
   exchangedFor: ["{0} was exchanged: {1} before, {2} after", "{0} wurde getauscht: vorher {1}, nachher {2}"],
@@ -339,10 +383,10 @@ const labels = {
     "Ein Stempel ist die Zahl at einer Zeile, wie sie angab, wer die Zeile schrieb: pol bewahrt sie auf und "
     + "vergleicht sie "
     + "mit nichts. Millisekunden seit 1970 sind als Datum in UTC gezeigt, andere Zahlen, wie sie sind."],
-  namesMean: ["Who gave a line is the name that its by has; pol believes it. Beside a command of a recipe it is "
+  namesMean: ["Who gave a line is the name in its field by; pol believes it. Beside a command of a recipe it is "
     + "whoever let the batch go on: which command that is the recipe says.",
-    "Von wem eine Zeile ist, sagt der Name in ihrem by; pol glaubt ihn. Neben einem Befehl des Rezepts ist es, wer die "
-    + "Charge weiterlaufen ließ: welcher Befehl das ist, sagt das Rezept."],
+    "Von wem eine Zeile ist, sagt der Name in ihrem Feld by; pol glaubt ihn. Neben einem Befehl des Rezepts ist es, "
+    + "wer die Charge weiterlaufen ließ: welcher Befehl das ist, sagt das Rezept."],
   recipeMeans: ["The recipe's checksum is of its chart, name and roles in compact form, keys in order, each step "
     + "with its "
     + "settings: one recipe has one checksum in every file.",
@@ -359,7 +403,7 @@ const labels = {
   startEvent: ["batch {batch} of recipe {recipe} is to start on {bind:bind}{watch:watch}",
     "Charge {batch} von Rezept {recipe} soll starten auf {bind:bind}{watch:watch}"],
   watches: [", watching {0}", ", beobachtet {0}"],
-  advance: ["batch {batch} may go one step further", "Charge {batch} darf einen Schritt weiter"],
+  advance: ["batch {batch} is asked to go one step further", "Charge {batch} soll einen Schritt weitergehen"],
   freeze: ["batch {batch} is to be frozen", "Charge {batch} soll eingefroren werden"],
   freezeHolding: ["batch {batch} is to be frozen, its services are to hold",
     "Charge {batch} soll eingefroren werden, ihre Dienste sollen halten"],

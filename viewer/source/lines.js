@@ -43,6 +43,24 @@ const lines = (() => {
     return ANSWERS.some(key => key in value) ? "answer" : "fault";
   }
   const OUTPUT = new Set(["answer", "batch", "binding", "end", "verdict", "read", "opened"]);
+  // Where the objects of a list stand in a line: from where to where each. A line that isn't JSON was told before.
+  function membersOf(text, from, to) {
+    const found = [];
+    let depth = 0, begun = 0, isText = false;
+    for (let at = from; at < to; at += 1) {
+      const sign = text[at];
+      if (sign === '"') isText = !isText;
+      else if (isText) at += sign === "\\" ? 1 : 0;
+      else if (sign === "{" || sign === "[") {
+        if (sign === "{" && depth === 2) begun = at;
+        depth += 1;
+      } else if (sign === "}" || sign === "]") {
+        depth -= 1;
+        if (sign === "}" && depth === 2) found.push([begun, at + 1]);
+      }
+    }
+    return found;
+  }
   // Columns of places: an entry's event and its answer stand in a file from one sign to another, in a line.
   class Places {
     constructor() { Object.assign(this, { file: [], from: [], to: [], line: [] }); }
@@ -65,8 +83,8 @@ const lines = (() => {
   class Found {
     constructor(files) {
       Object.assign(this, { files, whole: new Places(), events: new Places(), answers: new Places(), batches: [],
-        questions: new Set(), told: new Set(), faults: [], verdicts: [], policy: null, opened: null, finder: null,
-        site: null, build: null, ends: 0 });
+        questions: new Set(), told: new Set(), lists: [], isNamed: false, faults: [], verdicts: [],
+        policy: null, opened: null, finder: null, site: null, build: null, ends: 0 });
     }
     get length() { return this.whole.length + this.lead.length; }
     get hasAnswers() { return this.whole.length > 0 || this.answers.length > 0; }
@@ -76,8 +94,8 @@ const lines = (() => {
     // along.
     entry(k) {
       if (k < this.whole.length) {
-        const entry = exact(this.whole.raw(this.files, k));
-        return [entry.event, entry.answer];
+        const { event, by, answer } = exact(this.whole.raw(this.files, k));
+        return [typeof by === "string" ? { ...event, by } : event, answer];
       }
       const own = k - this.whole.length;
       const answer = own < this.answers.length ? exact(this.answers.raw(this.files, own)) : null;
@@ -112,10 +130,24 @@ const lines = (() => {
       this.answers = this.answers.without(inPairs ? this.questions : this.told);
       this.events = this.events.without(this.questions);
     }
+    // The entries that an operated plant was asked for, where they are all that is known of its events.
+    asked() {
+      if (this.events.length) return;
+      for (const [file, from, to, line] of this.lists) {
+        const { text } = this.files[file];
+        for (const [begun, end] of membersOf(text, from, to)) {
+          const isEntry = kindOf(parsed(text.slice(begun, end))) === "entry";
+          if (isEntry) this.whole.put(file, begun, end, line);
+          else this.fault(file, line, "unknownForm", begun, end);
+        }
+        this.isNamed = true;
+      }
+    }
     // A policy is no event and has no answer. Where there is an answer more than events, it was read as an event, as a
     // replay does.
     settle() {
       this.unask();
+      this.asked();
       if (this.policy === null || this.answers.length !== this.events.length + 1) return;
       this.events.insert(this.policy.before, this.policy.place);
       this.policy = null;
@@ -160,10 +192,14 @@ const lines = (() => {
     else if (journal.on) {
       if (kind === "question") found.questions.add(found.events.length);
       found.events.put(file, from, to, line);
-    } else if (kind === "entry") found.whole.put(file, from, to, line);
+    } else if (kind === "entry") {
+      found.whole.put(file, from, to, line);
+      if ("by" in value) found.isNamed = true;
+    }
     else if (kind === "event") found.events.put(file, from, to, line);
     else if (kind === "answer") found.answers.put(file, from, to, line);
     else if (kind === "told") {
+      if (Array.isArray(value.entries)) found.lists.push([file, from, to, line]);
       found.told.add(found.answers.length);
       found.answers.put(file, from, to, line);
     } else if (kind === "opened") found.opened = value;

@@ -55,7 +55,7 @@ const list = (() => {
       const attributes = { id: `row-${row}`, role: "option", class: style, "aria-selected": String(isHere),
         "aria-setsize": this.count, "aria-posinset": row + 1, style: `top:${row * tall}px;height:${tall}px` };
       return make("div", { ...attributes, click: () => this.go(entry) },
-        make("span", { class: "n" }, words.number(entry + 1)), make("bdi", { class: "e" }, event),
+        make("span", { class: "n" }, words.tick(entry) || "–"), make("bdi", { class: "e" }, event),
         make("bdi", { class: "a" }, answer));
     }
   }

@@ -7,13 +7,15 @@ const modules = (() => {
     Resuming: "move", Unholding: "move", Pausing: "pause", Paused: "pause", Holding: "hold", Held: "hold",
     Stopping: "stop", Stopped: "stop", Aborting: "abort", Aborted: "abort",
   };
-  const AT_REST = new Set(["Idle", "Completed", "Stopped", "Aborted"]);
+  // Where Hold leads out of.
+  const HOLDABLE = new Set(["Starting", "Execute", "Completing", "Pausing", "Paused", "Resuming", "Unholding"]);
+  const HOLD = 16, AT_REST = new Set(["Idle", "Completed", "Stopped", "Aborted"]);
   const nameOf = code => docs.states[code] ?? String(code);
   const isAtRest = code => AT_REST.has(nameOf(code)), isHeld = code => ["hold", "pause"].includes(STYLES[nameOf(code)]);
   class Service {
     constructor(name, tag) {
       this.lane = new spans.Lane("service", name); this.lane.owner = tag;
-      this.state = this.lane.track("state"); this.mode = this.lane.track("mode"); this.code = null;
+      this.state = this.lane.track("state"); this.mode = this.lane.track("mode"); this.code = null; this.heard = -1;
       // Which commands it enabled, where that changed.
       this.masks = new spans.Series();
     }
@@ -21,7 +23,7 @@ const modules = (() => {
     report(at, event) {
       const name = nameOf(event.StateCur), isNew = this.code !== event.StateCur;
       if (isNew) this.state.open(at, STYLES[name] ?? "unreported", name);
-      this.code = event.StateCur;
+      this.code = event.StateCur; this.heard = at;
       if (this.masks.last !== event.CommandEn) this.masks.put(at, event.CommandEn);
       const forRecipes = event.Mode === "Automatic" && event.Src === "External";
       if (forRecipes) this.mode.close(at);
@@ -32,6 +34,11 @@ const modules = (() => {
     // recipes; and the commands that it enabled.
     last(at) {
       return { state: this.state.textAt(at) || null, mode: this.mode.textAt(at), mask: this.masks.known(at) };
+    }
+    // Would a recipe's Hold lead on from what was reported last, and may none be sent?
+    get isBeyondHold() {
+      const isHoldable = this.code !== null && this.state.isOpen() && HOLDABLE.has(nameOf(this.code));
+      return isHoldable && (this.mode.isOpen() || !(this.masks.last & HOLD));
     }
     begin(at) { this.code = null; this.state.open(at, "unreported", ""); }
     close(at) { this.state.close(at); this.mode.close(at); }

@@ -18,6 +18,7 @@ const opening = (() => {
   }
   async function build(found, progress) {
     const history = new past.History(found);
+    words.places(at => history.placed(at));
     for (let at = 0; at < found.length; at += 1) {
       try {
         history.take(at, ...found.entry(at));
@@ -30,7 +31,7 @@ const opening = (() => {
       }
     }
     const verdict = verdicts.own(found, history);
-    if (verdict?.audit === "bad" && verdict.place < found.length) history.doubt(verdict);
+    if (verdict?.audit === "bad") history.doubt(verdict, verdicts.wrong(verdict, found, history));
     history.finish(found.site);
     for (const recipe of history.recipes.values()) recipe.sum = await sumOf(new TextEncoder().encode(recipe.text));
     return history;

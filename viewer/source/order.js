@@ -38,7 +38,7 @@ const order = (() => {
   function odd(all) {
     const entries = [...all.keys()].filter(entry => !Number.isNaN(all[entry]));
     const stamps = entries.map(entry => all[entry]);
-    const values = ends => [...ends.map(k => words.number(entries[k] + 1)), ...ends.map(k => said(stamps[k]))];
+    const values = ends => [...ends.map(k => entries[k]), ...ends.map(k => said(stamps[k]))];
     return [...falls(stamps), ...gaps(stamps)].map(({ key, from, to }) => ({ at: entries[to], key,
       values: values([from, to]) }));
   }

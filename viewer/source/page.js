@@ -67,7 +67,7 @@ const page = (() => {
     by("none").textContent = words.say(chosen.none("noBatch"));
     const rows = chosen.rows();
     entries.show(rows, state.found.length, said, view);
-    by("rows").textContent = rows ? words.many("Entries", rows.length) : "";
+    by("rows").textContent = rows ? counted(rows) : "";
     tables.batches(by("outcomes"), chosen, pick);
     tables.refusals(by("refused"), chosen, go, () => view.cursor);
     still();
@@ -76,6 +76,12 @@ const page = (() => {
     look(state.alarms.findIndex(each => each.at === view.cursor), true);
     told();
     choices();
+  }
+  // How many entries some lines are, and how many are none.
+  function counted(rows) {
+    const own = rows.filter(at => state.history.isEntry(at)).length, others = rows.length - own;
+    const told = own || !others ? [words.many("Entries", own)] : [];
+    return [...told, ...(others ? [words.many("Others", others)] : [])].join(" · ");
   }
   function still() {
     const told = reasons.still(state.chosen);

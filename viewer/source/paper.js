@@ -35,7 +35,7 @@ const paper = (() => {
       const [event, answer] = found.entry(at);
       const command = words.visible(`${words.command(event.CommandOp)}: ${event.service}, ${event.tag}`);
       const told = answer && "did" in answer ? words.say("permitted") : words.answer(answer);
-      return [words.number(at + 1), words.stamp(event.at), record.who(history, at), command, told];
+      return [words.entry(at), words.stamp(event.at), record.who(history, at), command, told];
     });
     return section("signDesk", cut(["entry", "stamp", "who", "command", "answer"], rows, "signDesk"));
   }
@@ -43,7 +43,7 @@ const paper = (() => {
     const shown = history.exchanges.filter(each => chosen.fits(each.begun, each.batch, each.tag));
     if (!shown.length) return section("signExchanges", tables.calm(chosen.none("signNoExchange")));
     const rows = shown.map(({ begun, ended, tag, before, after, batch, how }) => {
-      const place = words.number(begun + 1) + (ended === null ? "" : ` – ${words.number(ended + 1)}`);
+      const place = words.entry(begun) + (ended === null ? "" : ` – ${words.entry(ended)}`);
       return [place, tag, before ?? "–", how === "ended" ? after : words.say(how), batch ?? "–"];
     });
     return section("signExchanges", cut(["entry", "module", "before", "after", "batch"], rows, "signExchanges"));
@@ -58,7 +58,7 @@ const paper = (() => {
       [name, [text, since, again].filter(each => each).join(" · "), branches]);
     const why = [...running, ...never.map(each => [each.name, reasons.never(each, history).join(" "), []])];
     const told = ([name, text, branches]) => make("div", { class: "why" }, make("b", {}, words.visible(name)),
-      `: ${text}`, ...branches.map(each => make("span", { class: "branch" }, each)));
+      `: ${text}`, ...branches.map(each => tables.branch(each, "branch")));
     return section("overview", cut(tables.BATCH_KEYS, rows, "overview"), ...why.slice(0, MOST_ROWS).map(told));
   }
   function refusals(chosen) {
@@ -69,13 +69,13 @@ const paper = (() => {
       const { name, remedy, holds } = words.refusedBy(rule);
       const under = tables.below(rule, places, chosen.history).filter(each => each !== holds);
       return [name, words.number(places.length), [remedy, ...under].join(" · "),
-        places.slice(0, 6).map(at => words.number(at + 1)).join(", ") + more];
+        places.slice(0, 6).map(words.entry).join(", ") + more];
     }), "refusals"));
   }
   function alarms(chosen) {
     const list = chosen.alarms();
     if (!list.length) return section("reviewer", tables.calm(chosen.none("noAlarm")));
-    return section("reviewer", cut(["entry", "what"], list.map(alarm => [words.number(alarm.at + 1),
+    return section("reviewer", cut(["entry", "what"], list.map(alarm => [words.entry(alarm.at),
       make("span", {}, ...tables.alarmTold(alarm))]), "reviewer"));
   }
   const finder = ({ finder: own }) => (own ? section("finder", ...tables.finder(own)) : null);
@@ -88,7 +88,7 @@ const paper = (() => {
     const all = seal.faults(found, history);
     const told = all.slice(0, MOST_ROWS).map(text => make("p", { class: "why" }, text));
     if (all.length > told.length) told.push(make("p", {}, words.say("more", words.number(all.length - told.length))));
-    return told.length ? section("faults", ...told) : null;
+    return told.length ? section("ofFiles", ...told) : null;
   }
   function signPage(found, history, chosen, verdict) {
     const only = chosen.isAll ? null : make("p", { class: "only" }, words.say("signOnly", chosen.told));
@@ -145,7 +145,8 @@ const paper = (() => {
     const holder = make("div", { class: "drawn" }), { at } = batch.log, shown = at.slice(0, most);
     const end = batch.ended ?? history.stamps.length - 1, standing = stand.place(history, batch, end, batch.known);
     if (batch.known) here.drawn(holder, batch.known, standing);
-    const log = shown.map(each => make("li", { value: each + 1 }, history.answerTo(each, ...found.entry(each))));
+    const told = each => history.answerTo(each, ...found.entry(each));
+    const log = shown.map(each => make("li", { value: history.numbers[each] }, told(each)));
     const left = most ? at.length - log.length : 0, more = left ? words.say("signMoreLog", words.number(left)) : "";
     const list = make("ol", { class: "log" }, ...log), rest = make("p", { class: "small" }, more);
     return make("figure", {}, make("figcaption", {}, `${batch.name}: ${here.under(batch, standing)}`), holder,

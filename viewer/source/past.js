@@ -39,20 +39,33 @@ const past = (() => {
   class History {
     // Where the files have no answers, each event is assumed to be accepted; where they have no events, nobody knows
     // what became of a module or a batch.
-    constructor({ hasAnswers, hasEvents, whole, rules: policy }) {
-      Object.assign(this, { assumed: !hasAnswers, isBlind: !hasEvents, isOfPlant: whole.length > 0, modules: new Map(),
+    constructor(found) {
+      const { hasAnswers, hasEvents, whole, isNamed, rules: policy } = found;
+      this.lineOf = at => found.line(at);
+      const isOfPlant = whole.length > 0 && !isNamed;
+      Object.assign(this, { assumed: !hasAnswers, isBlind: !hasEvents, isOfPlant, modules: new Map(),
         batches: new Map(), recipes: new Map(), refusals: new Map(), attempts: new Map(), known: new Map(),
         people: new Map(), policy, alarms: [], desk: [], exchanges: [], never: [], odd: [] });
       // Of each entry: its stamp, the tag and the batch that it names, the rule that refused it.
       Object.assign(this, { stamps: [], tags: [], names: [], rules: [] });
+      // Which entries these are, by their numbers.
+      this.own = [];
+      this.numbers = [];
       this.counts = Object.fromEntries(["lines", "none", ...KINDS].map(kind => [kind, 0]));
     }
-    // How many entries the history has: a line at fault is none, nor is a command that a policy denied, nor what a full
-    // history refused.
-    get entries() {
-      const { lines, bad, denied } = this.counts;
-      return lines - bad - denied - (this.refusals.get("HistoryFull")?.length ?? 0);
+    // How many entries the history has, as an audit counts them: a line at fault is none, nor is a line that a policy
+    // denied, nor what a full history refused.
+    get entries() { return this.own.length; }
+    count(at, kind, rule) {
+      const isEntry = kind !== "bad" && kind !== "denied" && rule !== "HistoryFull";
+      if (isEntry) this.own.push(at);
+      this.numbers.push(isEntry ? this.own.length : 0);
     }
+    isEntry(at) { return this.numbers[at] > 0; }
+    // How many entries stand from one line up to another.
+    entriesIn(from, to) { return spans.below(this.own, to - 1) - spans.below(this.own, from - 1); }
+    // The number of an entry; of a line that is none, where it stands in its file.
+    placed(at) { return this.isEntry(at) ? { entry: this.numbers[at] } : { line: this.lineOf(at) }; }
     // A text that comes again and again is kept once.
     once(text) {
       if (typeof text !== "string") return null;
@@ -71,6 +84,7 @@ const past = (() => {
       if (event !== undefined && answer && !isPair(event, kind)) this.odd.push(at);
       const isRefused = Object.hasOwn(RULES, kind), rule = isRefused ? this.once(RULES[kind](answer)) : null;
       this.rules.push(kind === "bad" ? "bad" : rule);
+      this.count(at, kind, rule);
       if (typeof event?.by === "string") this.people.set(at, this.once(event.by));
       if (isRefused) this.refuse(at, event, answer, rule);
       else if ((kind !== "none" || this.assumed) && event && Object.hasOwn(TAKES, event.ev)) {
@@ -122,8 +136,21 @@ const past = (() => {
     // A step was left: to be looked at where its service still runs.
     left(at, batch, did) {
       if (modules.isAtRest(did.state)) return;
-      const { service, tag, state } = batch.left[batch.left.length - 1];
-      this.alarm(at, "left", { batch: batch.name, tag }, "leftAlarm", service, tag, words.state(state));
+      this.alarmLeft(at, batch, batch.left[batch.left.length - 1]);
+    }
+    alarmLeft(at, batch, own) {
+      this.alarm(at, "left", { batch: batch.name, tag: own.tag }, "leftAlarm", own.service, own.tag, own);
+    }
+    // An abandon sends nothing: a step that is active then goes on, unless its service was reported at rest since it
+    // was started.
+    abandoned(at, batch) {
+      const before = batch.left.length;
+      batch.abandon(at, batch.active(at).map(({ step, service, tag }) => {
+        const own = this.modules.get(tag)?.services.get(service), isKnown = Boolean(own?.last(at).state);
+        const isBefore = isKnown && own.heard < batch.startOf(step, at), state = isKnown ? own.code : null;
+        return { step, state, isBefore, deed: !isBefore && modules.isAtRest(state) ? "rest" : "left" };
+      }));
+      for (const each of batch.left.slice(before)) this.alarmLeft(at, batch, each);
     }
     // A freeze with holds has asked all that it can once an advance is answered Frozen; what runs on is to be seen.
     reached(at, batch) {
@@ -138,11 +165,31 @@ const past = (() => {
         this.alarm(at, "left", { batch: batch.name, tag }, "notHeld", service, tag, words.state(code));
       }
     }
+    // What a hold can't reach by what was reported, from the freeze on: also where no advance was answered Frozen.
+    watchHold(at, batch) {
+      if (!batch?.frozen || !batch.holds) return;
+      for (const each of batch.running(at)) {
+        const own = this.modules.get(each.tag)?.services.get(each.service), isNew = !batch.missed.has(each.step);
+        if (own?.isBeyondHold && isNew) batch.missed.set(each.step, { ...each, at, code: own.code });
+      }
+    }
+    // No hold came by the end of the freeze, or of the files.
+    endHold(batch) {
+      for (const { step, service, tag, at, code } of batch.missed.values()) {
+        if (batch.unheld?.some(each => each.step === step)) continue;
+        this.alarm(at, "left", { batch: batch.name, tag }, "notHeld", service, tag, words.state(code));
+      }
+    }
+    thaw(at, batch) {
+      this.endHold(batch);
+      batch.thaw(at);
+    }
     free(at, batch) {
       for (const tag of batch.tags) this.modules.get(tag)?.held(at, null);
       for (const tag of Object.values(batch.watch)) this.modules.get(tag)?.watched(at, batch.name, false);
     }
     shut(at, batch, outcome) {
+      this.endHold(batch);
       batch.close(at, outcome);
       this.free(at, batch);
       if (outcome !== "Completed") {
@@ -160,7 +207,9 @@ const past = (() => {
       }
       this.never = [...this.attempts.values()].filter(each => !this.batches.has(each.name));
       for (const batch of this.batches.values()) {
-        if (!batch.outcome && !this.assumed) this.alarm(end, "hold", { batch: batch.name }, "openBatch", batch.name);
+        if (batch.outcome) continue;
+        this.endHold(batch);
+        if (!this.assumed) this.alarm(end, "hold", { batch: batch.name }, "openBatch", batch.name);
       }
       for (const each of this.never) this.alarm(end, "hold", { batch: each.name }, "neverBatch", each.name);
       this.alarms.sort((one, two) => one.at - two.at);
@@ -175,9 +224,11 @@ const past = (() => {
         last = stamps[at];
       }
     }
-    // Where an audit found the first thing wrong.
-    doubt({ place, why, says }) {
-      this.alarm(place, "abort", {}, "auditHere", String(why), says);
+    // Where an audit found the first thing wrong: at an entry, or in a line behind them, which may be of a batch.
+    doubt({ place, says }, { what, name }) {
+      const batch = this.batches.get(name), end = Math.max(0, this.stamps.length - 1);
+      const at = batch?.ended ?? this.own[place] ?? end, values = what === "Answer" ? [says] : [place + 1, name];
+      this.alarm(at, "abort", batch ? { batch: name } : {}, `audit${what}`, ...values);
     }
     kindOfType(type, name) {
       const last = [...this.modules.values()].map(({ docks }) => docks[docks.length - 1]);
@@ -218,6 +269,7 @@ const past = (() => {
     report(all, at, event) {
       const module = all.modules.get(event.tag), state = module?.services.get(event.service)?.report(at, event);
       all.hear(module);
+      all.watchHold(at, all.batches.get(module?.holder));
       if (state === "Aborted" || state === "Stopped") {
         const style = state === "Aborted" ? "abort" : "stop";
         all.alarm(at, style, { tag: event.tag }, "abnormal", event.service, event.tag, state);
@@ -260,18 +312,25 @@ const past = (() => {
       }
     },
     freeze(all, at, event) {
-      all.batches.get(event.batch)?.freeze(at, event.hold === true);
+      const batch = all.batches.get(event.batch);
+      batch?.freeze(at, event.hold === true);
+      all.watchHold(at, batch);
       all.alarm(at, "hold", { batch: event.batch }, event.hold === true ? "frozenHolding" : "frozen", event.batch);
     },
-    thaw: (all, at, event) => all.batches.get(event.batch)?.thaw(at),
+    thaw(all, at, event) {
+      if (all.batches.has(event.batch)) all.thaw(at, all.batches.get(event.batch));
+    },
     stop(all, at, event, answer) {
       const batch = all.batches.get(event.batch);
-      batch?.thaw(at);
+      if (batch) all.thaw(at, batch);
       if (batch && "did" in answer) batch.did(at, answer.did);
       all.alarm(at, "stop", { batch: event.batch }, "stopAsked", event.batch);
     },
     abandon(all, at, event, answer) {
-      if (all.batches.has(event.batch)) all.shut(at, all.batches.get(event.batch), answer.closed ?? "Abandoned");
+      const batch = all.batches.get(event.batch);
+      if (!batch) return;
+      all.abandoned(at, batch);
+      all.shut(at, batch, answer.closed ?? "Abandoned");
     },
     desk(all, at, event, answer) {
       all.modules.get(event.tag)?.services.get(event.service)?.lane.note(at, "asked");

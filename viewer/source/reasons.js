@@ -13,10 +13,10 @@ const reasons = (() => {
   function waited(batch, history) {
     const told = [];
     for (const { tag, batch: other, from, to } of before(batch, history)) {
-      const text = words.say("beforeStart", tag, other, words.number(from + 1), words.number(to + 1));
+      const text = words.say("beforeStart", tag, other, words.entry(from), words.entry(to));
       told.push({ text, at: from, other });
     }
-    for (const each of batch.waited(history.stamps.length, history.stamps)) {
+    for (const each of batch.waited(history)) {
       told.push({ ...each, text: words.answer(each.answer), at: each.first,
         look: words.wait(each.answer.wait, each.answer)?.look });
     }
@@ -65,13 +65,13 @@ const reasons = (() => {
     const done = last ? words.answer({ did: last }) : words.say("started");
     const end = history.stamps.length - 1;
     return { name: batch.name, at, text: wait ? words.answer(wait) : words.say("lastDid", done),
-      since: words.say("since", words.number(at + 1), Number.isNaN(stamp) ? "" : ` (${words.stamp(stamp)})`),
+      since: words.say("since", words.entry(at), Number.isNaN(stamp) ? "" : ` (${words.stamp(stamp)})`),
       again: batch.isToAsk ? again(batch) : "",
       branches: awaited.told(batch, history, end, stand.place(history, batch, end, batch.known)) };
   }
   function again({ asked, heard }) {
     if (asked === null) return words.say("askFirst");
-    const entry = words.number(asked + 1);
+    const entry = words.entry(asked);
     return heard ? words.say("askAgain", entry, words.many("Reports", heard)) : words.say("askOn", entry);
   }
   return { waited, never, still };

@@ -17,6 +17,11 @@ const record = (() => {
       }
       else if (run?.to === null && OVER.has(deed)) Object.assign(run, { to: at, how: deed, state: did.state ?? null });
     });
+    // What an abandon leaves has no entry of its own.
+    for (const { step, deed, state, isBefore } of batch.abandoned) {
+      const run = open.get(step);
+      if (run?.to === null) Object.assign(run, { to: batch.ended, how: deed, state, isBefore });
+    }
     return made;
   }
   // From where to where a run's service was in Execute, by what was reported: entries, the second one null where no

@@ -2,7 +2,7 @@
 // where it stands in its chart at any entry. Takes what was answered and decides nothing. Knows nothing of drawing.
 "use strict";
 const runs = (() => {
-  const POINT = 1000;
+  const POINT = 1000, ACTIVE = ["on", "ending", "held", "broke"];
   const PHASES = { start: "on", finish: "on", reset: "ending", unhold: "on", hold: "held", end: "done", stop: "off",
     rest: "rest", left: "left", broke: "broke" };
   const MARKS = { chose: "node", turn: "node", leave: "node", broke: "broke", stop: "stop", left: "left",
@@ -42,8 +42,9 @@ const runs = (() => {
     constructor(at, event, known, lane) {
       Object.assign(this, { name: event.batch, recipe: event.recipe, bind: event.bind, watch: event.watch ?? {} });
       Object.assign(this, { known, lane, started: at, ended: null, outcome: null, frozen: false, slots: [], reasons: [],
-        before: [], left: [], freezes: [], unheld: null,
-        points: [new Standing()] });
+        before: [], left: [], abandoned: [], freezes: [], unheld: null, points: [new Standing()] });
+      // Steps that a hold didn't reach as long as the batch is frozen, each with its service and since when.
+      this.missed = new Map();
       // When it was asked last, how many reports of its modules came since, and when something else changed for it.
       Object.assign(this, { asked: null, heard: 0, changed: at });
       this.log = { at: [], did: [] };
@@ -77,12 +78,12 @@ const runs = (() => {
     freeze(at, holds) {
       this.frozen = true; this.holds = holds; this.changed = at;
       this.freezes.push({ from: at, to: null, holds });
-      this.unheld = null;
+      this.unheld = null; this.missed.clear();
       this.wait(at, { wait: "Frozen" });
     }
     thaw(at) {
       if (this.frozen) this.freezes[this.freezes.length - 1].to = at;
-      this.frozen = false; this.changed = at; this.waits.close(at);
+      this.frozen = false; this.changed = at; this.waits.close(at); this.missed.clear();
     }
     // An entry of the log: kept, and shown in the slot of its step.
     did(at, did) {
@@ -92,12 +93,23 @@ const runs = (() => {
       else this.moved(at, did);
       const deed = deedOf(did);
       if (deed === "left") this.leave(did);
+      if (deed === "hold") this.missed.delete(did.step);
       this.lane.note(at, Object.hasOwn(MARKS, deed) ? MARKS[deed] : "log");
     }
-    // A step was left with its service running: kept with that service.
-    leave({ step, state }) {
-      this.left.push({ ...this.serviceOf(step), state });
+    // A step was left with its service running: kept with that service. Where nothing was reported since its start,
+    // what was reported before is known alone.
+    leave({ step, state, isBefore = false }) {
+      this.left.push({ ...this.serviceOf(step), state, isBefore });
       this.lane.left = this.left;
+    }
+    // The steps that an abandon leaves as they are, of which nothing in the log says so: each with its last report.
+    abandon(at, steps) {
+      this.abandoned = steps;
+      for (const each of steps.filter(({ deed }) => deed === "left")) {
+        this.leave(each);
+        this.slots.find(track => track.isOpen() && track.owner === each.step)?.open(at, "left", each.step);
+        this.lane.note(at, "left");
+      }
     }
     // The service of a step, as its last start has told it.
     serviceOf(step) {
@@ -105,8 +117,11 @@ const runs = (() => {
       return { step, service: start?.service ?? step, tag: start?.tag ?? "?" };
     }
     // The steps that were started and neither asked to hold nor brought to their end, with their services.
-    running(at) {
-      const steps = [...this.standing(at).steps].filter(([, { phase }]) => phase === "on");
+    running(at) { return this.inPhase(at, ["on"]); }
+    // The steps that were started and aren't over, with their services.
+    active(at) { return this.inPhase(at, ACTIVE); }
+    inPhase(at, phases) {
+      const steps = [...this.standing(at).steps].filter(([, { phase }]) => phases.includes(phase));
       return steps.map(([step]) => this.serviceOf(step));
     }
     begin(at, step) {
@@ -126,7 +141,7 @@ const runs = (() => {
     }
     close(at, outcome) {
       if (this.frozen) this.freezes[this.freezes.length - 1].to = at;
-      this.outcome = outcome; this.ended = at; this.frozen = false;
+      this.outcome = outcome; this.ended = at; this.frozen = false; this.missed.clear();
       for (const track of [this.whole, this.waits, ...this.slots]) track.close(at);
       this.lane.outcome = outcome;
       this.lane.note(at, `end ${ENDS[outcome] ?? "stop"}`);
@@ -137,7 +152,9 @@ const runs = (() => {
       while (this.points.length * POINT <= count) {
         this.points.push(this.after(this.points.length - 1, this.points.length * POINT));
       }
-      return this.after(Math.floor(count / POINT), count);
+      const standing = this.after(Math.floor(count / POINT), count);
+      if (cursor >= (this.ended ?? Infinity)) for (const { step, deed } of this.abandoned) standing.step(step, deed);
+      return standing;
     }
     after(point, count) {
       const standing = this.points[point].copy();
@@ -151,14 +168,15 @@ const runs = (() => {
     }
     waitAt(cursor) { const k = this.waits.span(cursor); return k < 0 ? null : this.reasons[k]; }
     // What it waited for, each reason once: how often, how many entries and stamps in all, and where first.
-    waited(count, stamps) {
-      const found = new Map();
+    waited(history) {
+      const found = new Map(), { stamps } = history, count = stamps.length;
       this.reasons.forEach((answer, k) => {
         const key = JSON.stringify(answer), from = this.waits.from[k];
         const to = this.waits.to[k] < 0 ? count - 1 : this.waits.to[k];
         if (!found.has(key)) found.set(key, { answer, times: 0, entries: 0, lasted: 0, first: from });
         const own = found.get(key);
-        own.times += 1; own.entries += to - from; own.lasted += stamps[Math.min(to, stamps.length - 1)] - stamps[from];
+        own.times += 1; own.entries += history.entriesIn(from, to);
+        own.lasted += stamps[Math.min(to, stamps.length - 1)] - stamps[from];
       });
       return [...found.values()];
     }

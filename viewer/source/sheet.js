@@ -19,7 +19,7 @@ const sheet = (() => {
   const none = ({ history }, key) => tables.calm(history.assumed ? "noAnswer" : key);
   const row = cells => make("tr", {}, ...cells.map(cell => make("td", {}, ...[cell].flat())));
   // An entry with its stamp and whose line it is.
-  const parts = ({ found, history }, at) => [words.say("entryAt", words.number(at + 1)), record.stampAt(found, at),
+  const parts = ({ found, history }, at) => [words.entryAt(at), record.stampAt(found, at),
     record.who(history, at)];
   const placed = (own, at) => parts(own, at).join(" · ");
   function given(own, at) {
@@ -27,7 +27,7 @@ const sheet = (() => {
     return `${entry} · ${stamp} · ${words.say("givenBy", who)}`;
   }
   const block = (...within) => make("span", { class: "block" }, ...within);
-  const moment = ({ found }, at) => block(words.say("entryAt", words.number(at + 1)), under(record.stampAt(found, at)));
+  const moment = ({ found }, at) => block(words.entryAt(at), under(record.stampAt(found, at)));
   // What the batch was, as two columns.
   function facts(own) {
     const { batch, history } = own, { known, ended } = batch, { stamps, assumed } = history;
@@ -64,7 +64,7 @@ const sheet = (() => {
   function over(own, run) {
     const { batch } = own, isOpen = batch.ended === null;
     if (run.to === null) return [words.say(isOpen ? "phase_on" : "howOpen")];
-    const text = words.say(HOW[run.how], words.state(run.state));
+    const text = words.say(HOW[run.how], words.leftState(run));
     return [run.how === "left" ? make("b", { class: "left" }, text) : text, moment(own, run.to)];
   }
   function stepRow(own, run) {
@@ -81,13 +81,13 @@ const sheet = (() => {
   }
   function deeds(own) {
     const { batch, found, history } = own, keys = ["entry", "stamp", "lineBy", "what"];
-    const rows = record.deeds(batch, found, history).map(({ at, text, under: more }) => row([words.number(at + 1),
+    const rows = record.deeds(batch, found, history).map(({ at, text, under: more }) => row([words.entry(at),
       record.stampAt(found, at, true), record.who(history, at), [text, under(more)]]));
     return section("sheetDeeds", rows.length ? listed("sheetDeeds", "deeds", keys, rows) : none(own, "noStep"));
   }
   // All that a deviation has, each further part with its own entry, stamp and line.
   function told(own, { text, times, more, isLoud }) {
-    const again = times.slice(1, MOST_TIMES).map(at => words.number(at + 1)).join(", ");
+    const again = times.slice(1, MOST_TIMES).map(words.entry).join(", ");
     const left = times.length - MOST_TIMES, rest = left > 0 ? ` … (${words.say("more", words.number(left))})` : "";
     return [isLoud ? make("b", { class: "left" }, text) : text,
       again ? under(words.say("againAt", words.many("Times", times.length), again) + rest) : null,

@@ -16,9 +16,8 @@ const tables = (() => {
   }
   const name = text => make("bdi", {}, words.visible(text));
   function jump(at, go) {
-    const named = `${words.say("entry")} ${at + 1}`;
-    const attributes = { class: "jump", type: "button", click: () => go(at), "aria-label": named };
-    return make("button", attributes, words.number(at + 1));
+    const attributes = { class: "jump", type: "button", click: () => go(at), "aria-label": words.entryAt(at) };
+    return make("button", attributes, words.entry(at));
   }
   const picked = (text, pick) => make("button", { class: "jump", type: "button", click: () => pick(text) }, name(text));
   const NUMBERS = new Set(["from", "to", "duration", "count", "size"]);
@@ -42,8 +41,8 @@ const tables = (() => {
   }
   function batchRow(batch, history, pick) {
     const { stamps } = history, end = batch.ended ?? stamps.length - 1;
-    const ended = batch.ended === null ? "…" : words.number(batch.ended + 1);
-    const numbers = [words.number(batch.started + 1), ended, words.lasted(stamps[batch.started], stamps[end])];
+    const ended = batch.ended === null ? "…" : words.entry(batch.ended);
+    const numbers = [words.entry(batch.started), ended, words.lasted(stamps[batch.started], stamps[end])];
     const outcome = batch.outcome ?? words.say(history.assumed ? "unknown" : "running");
     const style = OUTCOMES[batch.outcome] ?? (history.assumed ? "idle" : "hold");
     return row(batch, pick, words.played(batch), numbers, style, outcome, batch.left);
@@ -145,10 +144,13 @@ const tables = (() => {
     const items = told.slice(0, MOST_WAITS).map(each => waitItem(each, go, pick, stamps));
     holder.replaceChildren(items.length ? make("ul", {}, ...items) : calm(none));
   }
+  // A branch at which a batch stands; what is to be looked at there is red.
+  const branch = ({ text, warning }, style) => make("span", { class: style }, text, warning ? " · " : null,
+    warning ? make("b", { class: "left" }, warning) : null);
   function stillItem({ name: batch, at, text, since, again, branches }, go, pick) {
     const under = make("span", { class: "small block" }, since, again ? " · " : null,
       again ? make("b", { class: "again" }, again) : null);
-    const each = branches.map(branch => make("span", { class: "small branch" }, branch));
+    const each = branches.map(own => branch(own, "small branch"));
     return make("li", {}, picked(batch, pick), jump(at, go), make("span", {}, text), under, ...each);
   }
   // What waits or stands still at the end, and by each batch where its branches stand.
@@ -157,6 +159,6 @@ const tables = (() => {
     if (left) items.push(make("li", { class: "calm" }, words.say("more", words.number(left))));
     holder.replaceChildren(make("ul", {}, ...items));
   }
-  return { make, name, jump, table, more, NUMBERS, chip, calm, batches, alarms, alarmTold, refusals, below, finder,
-    waits, still, BATCH_KEYS, batchRow, neverRow };
+  return { make, name, jump, table, more, NUMBERS, chip, calm, batches, alarms, alarmTold, refusals, below, branch,
+    finder, waits, still, BATCH_KEYS, batchRow, neverRow };
 })();

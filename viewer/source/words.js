@@ -16,6 +16,8 @@ const words = (() => {
     bind: listed,
     watch: watch => (watch ? say("watches", listed(watch)) : ""),
     answer: given => (given ? answer(given) : "?"),
+    place: at => entryAt(at),
+    left: own => leftState(own),
     who: person => (typeof person === "string" ? person : say("anOperator")),
     values: values => (Array.isArray(values) && values.length ? values.join(", ") : say("byNothing")),
   };
@@ -47,7 +49,22 @@ const words = (() => {
     return typeof told === "string" ? `“${visible(told)}”` : visible(told);
   }
   // A service that was left running, short.
-  const left = ({ service, tag, state }) => say("leftIn", service, tag, SAID.state(state));
+  const left = own => say("leftIn", own.service, own.tag, leftState(own));
+  // In which state it was left: as reported last, if it was, and perhaps before it was started.
+  function leftState({ state, isBefore }) {
+    if (state === null) return say("unreportedState");
+    return isBefore ? say("beforeItsStart", SAID.state(state)) : SAID.state(state);
+  }
+  // Which number an entry has is told by its history, which counts as an audit does: what is no entry has its line's.
+  let placeOf = at => ({ entry: at + 1 });
+  const places = how => { placeOf = how; };
+  const entry = at => (placeOf(at).entry ? number(placeOf(at).entry) : entryAt(at));
+  function entryAt(at) {
+    const { entry: own, line } = placeOf(at);
+    return own ? say("entryAt", number(own)) : say("atLine", number(line));
+  }
+  // On an axis a line that is no entry has no number.
+  const tick = at => (placeOf(at).entry ? number(placeOf(at).entry) : "");
   // Milliseconds since 1970, from 2001 to 5138, are shown as a time; other stamps as numbers.
   const isTime = stamp => Number(stamp) > 1e12 && Number(stamp) < 1e14;
   function stamp(told) {
@@ -148,7 +165,7 @@ const words = (() => {
   const ownOf = (table, key) => (language && german[table][key]?.[0]) || docs[table][key];
   const word = (table, key) => (Object.hasOwn(docs[table], key) ? ownOf(table, key) : null);
   const set = isGerman => { language = isGerman ? 1 : 0; };
-  return { say, many, visible, number, thousandths, value, stamp, isTime, left, lasted, event, answer, refusal, rule,
-    refusedBy, ruleFor, wait, word, listed, played, set,
+  return { say, many, visible, number, thousandths, value, stamp, isTime, left, leftState, lasted, places, entry,
+    entryAt, tick, event, answer, refusal, rule, refusedBy, ruleFor, wait, word, listed, played, set,
     state: SAID.state, command: SAID.command, isGerman: () => language === 1 };
 })();
