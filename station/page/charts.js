@@ -68,7 +68,7 @@ const charts = (() => {
   // By the number of its node what is told of each branch.
   function told(batch, known, history) {
     const own = batchOf(batch, known), lines = awaited.told(own, history, NOW, stand.place(history, own, NOW, known));
-    return new Map(awaited.at(own, NOW).map((node, k) => [known.numbers.get(node), lines[k]]));
+    return new Map(awaited.at(own, NOW).map((node, k) => [known.numbers.get(node), lines[k].text]));
   }
   // How a batch stands, with the nodes that are awaited in each branch: as `pol` says it, where it does.
   function placeOf(batch, known, history) {

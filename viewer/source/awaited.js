@@ -61,7 +61,7 @@ const awaited = (() => {
     const phase = words.say(own.completes && own.phase === "on" ? "phase_finish" : `phase_${own.phase}`);
     const isRead = node.finish && own.phase === "on" && !own.completes;
     const read = isRead ? condition(place.told(node.finish), place.values(node.finish)) : [];
-    const isMissed = batch.missed.has(node.step) || batch.unheld?.some(each => each.step === node.step);
+    const isMissed = batch.missed?.has(node.step) || batch.unheld?.some(each => each.step === node.step);
     const isUnheld = batch.frozen && own.phase === "on" && isMissed;
     return { parts: [`${node.step}: ${phase}`, reported(tag, node.service, module, cursor), ...read,
       lacking(node, own, last)], warning: isUnheld ? words.say("unheld") : "" };
