@@ -9,6 +9,8 @@ ROOT = pathlib.Path(__file__).resolve().parent.parent
 # What a check of a crate reads, and what a run of a program reads beside it.
 CHECKED = ("src", "specs", "proofs")
 RUN = ("stdin", "stdout", "args", "status", "data")
+# A line that is a comment, by the end of its file's name.
+COMMENT = {".rt": re.compile(rb"^ *//.*\n", re.M), ".antt": re.compile(rb"^ *--.*\n", re.M)}
 
 
 def uses(root=ROOT):
@@ -47,9 +49,15 @@ def sum_of(pairs):
     return total.hexdigest()[:20]
 
 
+def uncommented(file):
+    """A file's bytes without the lines that are comments, which no check reads."""
+    form, data = COMMENT.get(file.suffix), file.read_bytes()
+    return form.sub(b"", data) if form else data
+
+
 def text_sum(name, root=ROOT):
-    """The sum of a crate's checked text."""
-    return sum_of((path, file.read_bytes()) for path, file in files(root / "crates" / name, CHECKED))
+    """The sum of a crate's checked text, whatever its comments say."""
+    return sum_of((path, uncommented(file)) for path, file in files(root / "crates" / name, CHECKED))
 
 
 def lay_crate(name, root, folder):
