@@ -11,10 +11,27 @@ use Rattle.pol_overview.specs.Modules.{control_object, module_object, service_ob
 use Rattle.pol_overview.specs.Overview.{plant_object}
 use Rattle.pol_overview.specs.Steps.{active_object, unheld_object, waiting_object}
 
--- whatever stands before them, seven parts may be grouped from either end
-grouped : (old a b c d e f g : List Token) →
-    ((((((old ++ a) ++ b) ++ c) ++ d) ++ e) ++ f) ++ g ≡ old ++ (a ++ (b ++ (c ++ (d ++ (e ++ (f ++ g))))))
-grouped old a b c d e f g = simp append_assoc refl
+-- parts one after another behind other tokens, grouped from the front
+abbrev onto : List Token → List (List Token) → List Token
+onto old [] = old
+onto old (part ∷ parts) = onto (old ++ part) parts
+
+-- parts one after another in front of other tokens, grouped from the end
+abbrev before : List (List Token) → List Token → List Token
+before [] rest = rest
+before (part ∷ parts) rest = part ++ before parts rest
+
+-- parts may be grouped from either end
+grouped : (old : List Token) (parts : List (List Token)) (last : List Token) →
+    onto old parts ++ last ≡ old ++ before parts last
+grouped old [] last = refl
+grouped old (part ∷ parts) last = grouped (old ++ part) parts last ∙ append_assoc old part (before parts last)
+
+-- tokens behind the last of some parts are behind all of them
+behind : (parts : List (List Token)) (last rest : List Token) → before parts last ++ rest ≡ before parts (last ++ rest)
+behind [] last rest = refl
+behind (part ∷ parts) last rest =
+    append_assoc part (before parts last) rest ∙ ap (λ tokens. part ++ tokens) (behind parts last rest)
 
 -- a bracket, five fields and a bracket behind other tokens are the tokens of what a service reported
 pub control_tokens : (old : List Token) (mask : ℕ) (mode : List ℕ) (procedure : ℕ) (origin : List ℕ) (state : ℕ) →
@@ -29,11 +46,11 @@ pub control_tokens : (old : List Token) (mask : ℕ) (mode : List ℕ) (procedur
     ≡ old ++ data_tokens (control_object mask mode procedure origin state)
 unfolding control_object
 control_tokens old mask mode procedure origin state =
-    grouped old (token.begin_object ∷ []) (token.key (codes "CommandEn") ∷ data_tokens (whole mask))
-    (token.key (codes "Mode") ∷ token.string mode ∷ [])
-    (token.key (codes "ProcedureCur") ∷ data_tokens (whole procedure))
-    (token.key (codes "Src") ∷ token.string origin ∷ []) (token.key (codes "StateCur") ∷ data_tokens (whole state))
-    (token.end_object ∷ [])
+    grouped old ((token.begin_object ∷ []) ∷ (token.key (codes "CommandEn") ∷ data_tokens (whole mask))
+    ∷ (token.key (codes "Mode") ∷ token.string mode ∷ [])
+    ∷ (token.key (codes "ProcedureCur") ∷ data_tokens (whole procedure))
+    ∷ (token.key (codes "Src") ∷ token.string origin ∷ []) ∷ (token.key (codes "StateCur") ∷ data_tokens (whole state))
+    ∷ []) (token.end_object ∷ [])
 
 -- so are those of a service
 pub service_tokens : (old : List Token) (may : ℕ) (name : List ℕ) (view : Data) →
@@ -96,9 +113,9 @@ pub closed_tokens : (old : List Token) (batch : List ℕ) (held : Data) (outcome
     ≡ old ++ data_tokens (closed_object batch held outcome recipe watched)
 unfolding closed_object
 closed_tokens old batch held outcome recipe watched =
-    grouped old (token.begin_object ∷ []) (token.key (codes "batch") ∷ token.string batch ∷ [])
-    (token.key (codes "bind") ∷ data_tokens held) (token.key (codes "outcome") ∷ token.string outcome ∷ [])
-    (token.key (codes "recipe") ∷ token.string recipe ∷ []) (token.key (codes "watch") ∷ data_tokens watched)
+    grouped old ((token.begin_object ∷ []) ∷ (token.key (codes "batch") ∷ token.string batch ∷ [])
+    ∷ (token.key (codes "bind") ∷ data_tokens held) ∷ (token.key (codes "outcome") ∷ token.string outcome ∷ [])
+    ∷ (token.key (codes "recipe") ∷ token.string recipe ∷ []) ∷ (token.key (codes "watch") ∷ data_tokens watched) ∷ [])
     (token.end_object ∷ [])
 
 -- those of an active step
@@ -139,33 +156,20 @@ pub waiting_tokens : (old : List Token) (node : ℕ) (obstacle : Data) →
 unfolding waiting_object
 waiting_tokens old node obstacle = simp append_assoc refl
 
--- so may four
-four : (old a b c d : List Token) → (((old ++ a) ++ b) ++ c) ++ d ≡ old ++ (a ++ (b ++ (c ++ d)))
-four old a b c d = simp append_assoc refl
+-- the first fields of a batch that is open, but for the last of them
+abbrev front_parts : Data → List ℕ → Data → Data → List (List Token)
+front_parts active batch held hold =
+    (token.key (codes "active") ∷ []) ∷ data_tokens active
+    ∷ (token.key (codes "batch") ∷ token.string batch ∷ []) ∷ (token.key (codes "bind") ∷ data_tokens held)
+    ∷ (token.key (codes "hold") ∷ []) ∷ data_tokens hold ∷ (token.key (codes "next") ∷ []) ∷ []
 
--- and eight
-eight : (old a b c d e f g h : List Token) →
-    (((((((old ++ a) ++ b) ++ c) ++ d) ++ e) ++ f) ++ g) ++ h
-    ≡ old ++ (a ++ (b ++ (c ++ (d ++ (e ++ (f ++ (g ++ h)))))))
-eight old a b c d e f g h = simp append_assoc refl
-
--- and nine
-nine : (old a b c d e f g h i : List Token) →
-    ((((((((old ++ a) ++ b) ++ c) ++ d) ++ e) ++ f) ++ g) ++ h) ++ i
-    ≡ old ++ (a ++ (b ++ (c ++ (d ++ (e ++ (f ++ (g ++ (h ++ i))))))))
-nine old a b c d e f g h i = simp append_assoc refl
-
--- what stands behind eight parts stands behind the last of them
-eight_before : (a b c d e f g h rest : List Token) →
-    (a ++ (b ++ (c ++ (d ++ (e ++ (f ++ (g ++ h))))))) ++ rest
-    ≡ a ++ (b ++ (c ++ (d ++ (e ++ (f ++ (g ++ (h ++ rest)))))))
-eight_before a b c d e f g h rest = simp append_assoc refl
-
--- so it does behind nine
-nine_before : (a b c d e f g h i rest : List Token) →
-    (a ++ (b ++ (c ++ (d ++ (e ++ (f ++ (g ++ (h ++ i)))))))) ++ rest
-    ≡ a ++ (b ++ (c ++ (d ++ (e ++ (f ++ (g ++ (h ++ (i ++ rest))))))))
-nine_before a b c d e f g h i rest = simp append_assoc refl
+-- the last fields of a batch that is open, but for the last of all
+abbrev back_parts : List ℕ → Bool → Data → Data → List (List Token)
+back_parts recipe stopping unheld waits =
+    (token.key (codes "outcome") ∷ token.string (codes "Running") ∷ [])
+    ∷ (token.key (codes "recipe") ∷ token.string recipe ∷ []) ∷ (token.key (codes "stopping") ∷ [])
+    ∷ (token.boolean stopping ∷ []) ∷ (token.key (codes "unheld") ∷ []) ∷ data_tokens unheld
+    ∷ (token.key (codes "waits") ∷ []) ∷ data_tokens waits ∷ []
 
 -- the first fields of a batch that is open, one behind the other
 pub front_grouped : (old : List Token) (active : Data) (batch : List ℕ) (held hold next : Data) →
@@ -179,9 +183,7 @@ pub front_grouped : (old : List Token) (active : Data) (batch : List ℕ) (held 
     ++ data_tokens next
     ≡ old ++ front_tokens active batch held hold next
 front_grouped old active batch held hold next =
-    eight old (token.key (codes "active") ∷ []) (data_tokens active)
-    (token.key (codes "batch") ∷ token.string batch ∷ []) (token.key (codes "bind") ∷ data_tokens held)
-    (token.key (codes "hold") ∷ []) (data_tokens hold) (token.key (codes "next") ∷ []) (data_tokens next)
+    grouped old (front_parts active batch held hold) (data_tokens next)
 
 -- and its last ones
 pub back_grouped : (old : List Token) (recipe : List ℕ) (stopping : Bool) (unheld waits watched : Data) →
@@ -196,10 +198,7 @@ pub back_grouped : (old : List Token) (recipe : List ℕ) (stopping : Bool) (unh
     ++ token.key (codes "watch") ∷ data_tokens watched
     ≡ old ++ back_tokens recipe stopping unheld waits watched
 back_grouped old recipe stopping unheld waits watched =
-    nine old (token.key (codes "outcome") ∷ token.string (codes "Running") ∷ [])
-    (token.key (codes "recipe") ∷ token.string recipe ∷ []) (token.key (codes "stopping") ∷ [])
-    (token.boolean stopping ∷ []) (token.key (codes "unheld") ∷ []) (data_tokens unheld)
-    (token.key (codes "waits") ∷ []) (data_tokens waits) (token.key (codes "watch") ∷ data_tokens watched)
+    grouped old (back_parts recipe stopping unheld waits) (token.key (codes "watch") ∷ data_tokens watched)
 
 -- a bracket, these fields and a bracket behind other tokens are the tokens of a batch that is open
 pub open_tokens : (old : List Token) (active : Data) (batch : List ℕ) (held hold next : Data) (recipe : List ℕ)
@@ -214,17 +213,12 @@ unfolding open_object
 open_tokens old active batch held hold next recipe stopping unheld waits watched =
     let front = front_tokens active batch held hold next in
     let back = back_tokens recipe stopping unheld waits watched in
-    four old (token.begin_object ∷ []) front back (token.end_object ∷ [])
+    grouped old ((token.begin_object ∷ []) ∷ front ∷ back ∷ []) (token.end_object ∷ [])
     ∙ ap (λ tokens. old ++ (token.begin_object ∷ (front ++ tokens)))
-    (nine_before (token.key (codes "outcome") ∷ token.string (codes "Running") ∷ [])
-    (token.key (codes "recipe") ∷ token.string recipe ∷ []) (token.key (codes "stopping") ∷ [])
-    (token.boolean stopping ∷ []) (token.key (codes "unheld") ∷ []) (data_tokens unheld)
-    (token.key (codes "waits") ∷ []) (data_tokens waits) (token.key (codes "watch") ∷ data_tokens watched)
+    (behind (back_parts recipe stopping unheld waits) (token.key (codes "watch") ∷ data_tokens watched)
     (token.end_object ∷ []))
     ∙ ap (λ tokens. old ++ (token.begin_object ∷ tokens))
-    (eight_before (token.key (codes "active") ∷ []) (data_tokens active)
-    (token.key (codes "batch") ∷ token.string batch ∷ []) (token.key (codes "bind") ∷ data_tokens held)
-    (token.key (codes "hold") ∷ []) (data_tokens hold) (token.key (codes "next") ∷ []) (data_tokens next) _)
+    (behind (front_parts active batch held hold) (data_tokens next) _)
 
 -- those of a plant, under its key
 pub plant_tokens : (old : List Token) (batches : Data) (begun : List ℕ) (entries : ℕ) (modules near recipes : Data)
