@@ -26,7 +26,7 @@ ranged_param named low high kind value =
     refused_if (int_lt max min) Unsound >>= λ _.
     Ok (record { name = named; kind = kind min max })
 
--- a parameter that has none
+-- a parameter that has no least and no greatest value
 unfoldable pub free_param : List ℕ → ParamKind → Data → ReadResult PlainParam
 free_param named kind value =
     nothing_but (codes "name kind") value >>= λ _.
@@ -39,7 +39,7 @@ param_by named value param.DInt = ranged_param named least_i32 greatest_i32 DInt
 param_by named value param.Bin = free_param named Bin value
 param_by named value param.Text = free_param named Text value
 
--- a parameter
+-- the form of a parameter
 unfoldable pub param_of : Data → ReadResult PlainParam
 param_of value =
     object_here value >>= λ _.
@@ -47,7 +47,7 @@ param_of value =
     required (codes "kind") (word param_words) value >>= λ kind.
     param_by named value kind
 
--- a procedure
+-- the form of a procedure
 unfoldable pub procedure_of : Data → ReadResult PlainProcedure
 procedure_of value =
     object_here value >>= λ _.
@@ -59,7 +59,7 @@ procedure_of value =
     under (codes "params") (refused_if (repeats_by same_param params) Repeated) >>= λ _.
     Ok (record { number = number; is_default = is_default; self_completing = self_completing; params = params })
 
--- what stands for the procedures of a service that names none
+-- the procedure of a service that names none
 abbrev pub only_procedure : PlainProcedure
 only_procedure = record { number = 1; is_default = true; self_completing = false; params = [] }
 
@@ -70,7 +70,7 @@ ruled_service named procedures =
     under (codes "procedures") (refused_if (not (has_one_default procedures)) Unsound) >>= λ _.
     Ok (record { name = named; procedures = procedures })
 
--- a service
+-- the form of a service
 unfoldable pub service_of : Data → ReadResult PlainService
 service_of value =
     object_here value >>= λ _.
@@ -79,7 +79,7 @@ service_of value =
     nothing_but (codes "name procedures") value >>= λ _.
     ruled_service named (unwrap_or procedures (only_procedure ∷ []))
 
--- a variable
+-- the form of a variable
 unfoldable pub variable_of : Data → ReadResult PlainVariable
 variable_of value =
     object_here value >>= λ _.
@@ -88,7 +88,7 @@ variable_of value =
     nothing_but (codes "name kind") value >>= λ _.
     Ok (record { name = named; kind = kind })
 
--- a description
+-- the form of a description
 unfoldable pub description_of : Data → ReadResult PlainDescription
 description_of value =
     object_here value >>= λ _.

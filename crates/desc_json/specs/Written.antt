@@ -40,7 +40,7 @@ variable_word variable.DInt = codes "DIntView"
 variable_word variable.Bin = codes "BinView"
 variable_word variable.Text = codes "StringView"
 
--- a variable
+-- a variable: its name and its kind
 unfoldable pub written_variable : PlainVariable → Data
 written_variable variable = free variable.name (variable_word variable.kind)
 

@@ -2,7 +2,7 @@
 //!
 //! The form is `description_of` in `specs/Form.antt`. `read_description` gives what the form gives, the description or
 //! the first fault in reading order; `write_description` writes the whole form, and the form of what it writes is the
-//! description again. What a description is stands in `mtp_desc`.
+//! description again. `mtp_desc` says what a description is.
 //!
 //! Tried in `mtp_examples`.
 #![tactic(auto)]

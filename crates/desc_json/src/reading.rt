@@ -38,7 +38,7 @@ fn version_under(alloc: Global, text: &str) -> Result<Version, JsonRefusal>
     }
 }
 
-/// The description that this value is in the form of; else the first fault in reading order, with its path.
+/// The description of which this value is the form; else the first fault in reading order, with its path.
 #[tactic(auto, unfolding(crate::specs::Form::description_of))]
 pub fn read_description(alloc: Global, value: &Value) -> Result<Description, JsonRefusal>
     ensures { ReadsAs plain_description result (description_of (view value.now)) }

@@ -10,7 +10,7 @@ use Rattle.kept_jobs.specs.Keeping.{GoesOn, IsKept, JobState, StandsForSome}
 
 module _ {State Item Answer : Type 0} (work : ChronicleWork State Item Answer) {Known Reason : Type 0}
     (lines : LineWork Known Reason) (items : Known → List Item) {D : Type 0} (disk : Telling D) where
-  -- each image stands for what is kept
+  -- each image of a kept job's disk stands for the items that are kept
   stands_now : (job : JobState Known D) → IsKept work items disk job → (image : List ℕ) →
       disk.images job.disk image → StandsForSome work lines items job.known [] [] image
   stands_now job kept image left = record {
@@ -19,7 +19,7 @@ module _ {State Item Answer : Type 0} (work : ChronicleWork State Item Answer) {
     stands = kept.stand image left;
   }
 
-  -- before it meets a line
+  -- a job goes on from itself to itself, before it meets a line
   pub goes_nowhere : ((now : D) (image : List ℕ) → disk.left_since now (disk.moment now) image →
       disk.images now image) → (job : JobState Known D) → GoesOn work lines items disk job job [] [] true
   goes_nowhere only_now job = record {

@@ -8,20 +8,20 @@ use Rattle.pol_kept.specs.Stands.{StandsFor}
 use Rattle.pol_kept.specs.Work.{ChronicleWork}
 use Rattle.kept_jobs.specs.Telling.{Telling}
 
--- what is seen of such a job: what it knows, its disk, whether a call of the disk failed, and how many of its items
--- wait to be kept: the last ones
+-- what is seen of a job on kept items: what it knows, its disk, whether a call of the disk failed, and how many of its
+-- items wait to be kept: the last ones
 pub record JobState (Known D : Type 0) : Type 0 where
   pub known : Known
   pub disk : D
   pub closed : Bool
   pub waiting : ℕ
 
--- one that knows this, and has this store
+-- the job that knows this and has this store
 abbrev pub job_state : {Known C D : Type 0} → Known → KeptState C D → JobState Known D
 job_state known store =
     record { known = known; disk = store.disk; closed = store.closed; waiting = store.waiting }
 
--- its store is open, its disk tells its bytes, no item waits, and each image stands for its items
+-- the job is kept: its store is open, its disk's bytes are known, no item waits, and each image stands for its items
 pub record IsKept {State Item Answer : Type 0} (work : ChronicleWork State Item Answer) {Known : Type 0}
     (items : Known → List Item) {D : Type 0} (disk : Telling D) (job : JobState Known D) : Type 0 where
   pub opened : job.closed ≡ false
@@ -50,7 +50,7 @@ pub record Admits {State Item Answer : Type 0} (work : ChronicleWork State Item 
 -- ---- lines
 
 module _ {Known Reason : Type 0} (lines : LineWork Known Reason) {Item : Type 0} (items : Known → List Item) where
-  -- these are the items behind the settled lines and the first of those that wait
+  -- the items are those behind the settled lines and the first of those that wait
   pub record AreSome (known : Known) (settled waiting : List Line) (some : List Item) : Type 0 where
     pub first : List Line
     pub behind : List Line
@@ -64,7 +64,7 @@ module _ {Known Reason : Type 0} (lines : LineWork Known Reason) {Item : Type 0}
     pub are : waiting ≡ before ++ last ∷ []
     pub some : AreSome known (settled ++ before) (last ∷ []) (items now)
 
-  -- where it replied to the last one too, what it knows now is what is known behind all lines; else it stopped there
+  -- where the job replied to the last line too, it knows now what is known behind all lines; else it stopped there
   abbrev pub KnowsMet : Bool → Known → List Line → List Line → Known → Type 0
   KnowsMet true known settled waiting now = now ≡ after_each lines known (settled ++ waiting)
   KnowsMet false known settled waiting now = StopsAtLast known settled waiting now
@@ -78,8 +78,8 @@ module _ {State Item Answer : Type 0} (work : ChronicleWork State Item Answer) {
     pub stands : StandsFor work kept image
 
   module _ {D : Type 0} (disk : Telling D) where
-    -- it has met these lines, and its disk tells its bytes: it keeps the items behind the settled ones and maybe behind
-    -- some of the others, and the group of the rest waits
+    -- the job has met these lines, and its disk's bytes are known: the disk keeps the items behind the settled ones and
+    -- maybe behind some of the others, and the group of the rest waits
     pub record HasMet (first now : JobState Known D) (settled waiting : List Line) (whole : Bool) : Type 0 where
       pub bytes : List ℕ
       pub told : disk.bytes now.disk ≡ Some bytes

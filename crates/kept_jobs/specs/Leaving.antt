@@ -22,8 +22,8 @@ module _ {State Item Answer : Type 0} (work : ChronicleWork State Item Answer) w
     pub are : pieces input ≡ first ++ others
     pub stands : StandsFor work (items_with first) image
 
-  -- the same; and these are all lines, or the sink took no more than the answers to them: so each line whose answer it
-  -- took whole is one of them
+  -- the image stands for the items with those of the first lines of an input; and these are all lines, or the sink took
+  -- no more than the answers to them: so each line whose answer it took whole is one of them
   pub record StandsForAnswered (items_with : List (List ℕ) → List Item) (answers_with : List (List ℕ) → List ℕ)
       (input : List ℕ) (held held' : Option (List ℕ)) (image : List ℕ) : Type 0 where
     pub first : List (List ℕ)
@@ -45,7 +45,7 @@ module _ {State Item Answer : Type 0} (work : ChronicleWork State Item Answer) w
     IsEarlier false before old image = disk.images before image
     IsEarlier true before old image = disk.images before image ⊎ StandsFor work old image
 
-    -- From one state of the disk to another, through which it told its bytes, the items of an input were kept behind
+    -- From one state of the disk to another, through which its bytes were known, the items of an input were kept behind
     -- those that it read as, and the sink took what it has now. A crash at any moment leaves an image of before the
     -- first line, or the items with those of the first lines. At the end each image stands for so many that each line
     -- whose answer the sink took whole is among them; where the sink took nothing, it may be one of before.
@@ -58,13 +58,13 @@ module _ {State Item Answer : Type 0} (work : ChronicleWork State Item Answer) w
           ((held' ≡ held) × IsEarlier job.begins before old image)
           ⊎ StandsForAnswered (job.items_with old) (job.answers_with old) input held held' image)
 
-    -- those of all lines were: each image at the end stands for them
+    -- the items of all lines of an input were kept: each image at the end stands for the old items with those
     abbrev pub KeepsAllLines : KeptJob Item → D → D → Option (List ℕ) → Type 0
     KeepsAllLines job before now left =
         (old : List Item) → ReadsAs before old → Tells disk now → IfSome left (λ input.
         (image : List ℕ) → disk.images now image → StandsFor work (job.items_with old (pieces input)) image)
 
-    -- From one state of the disk to another, through which it told its bytes, nothing happened to the items that it
+    -- From one state of the disk to another, through which its bytes were known, nothing happened to the items that it
     -- read as: a crash at any moment leaves them, or what a crash might have left before.
     abbrev pub HoldsOn : D → D → Type 0
     HoldsOn before now =
@@ -72,7 +72,7 @@ module _ {State Item Answer : Type 0} (work : ChronicleWork State Item Answer) w
         LeavesOnly disk.moment disk.left_since before now
         (λ image. disk.images before image ⊎ StandsFor work old image)
 
-    -- each image at the end stands for them
+    -- each image at the end stands for the items that the disk read as
     abbrev pub HoldsAll : D → D → Type 0
     HoldsAll before now =
         (old : List Item) → ReadsAs before old → Tells disk now →

@@ -32,7 +32,7 @@ last_of first (run ∷ runs) = last_of run.now runs
 module _ {State Item Answer : Type 0} (work : ChronicleWork State Item Answer) {D : Type 0} (disk : Telling D)
     (job : KeptJob Item) where
   -- A run behind a crash: it finds what that might leave, all of it where the program was killed, or one image where
-  -- the power went. What it reads is one of the images, its disk tells its bytes to its end, and it keeps its lines.
+  -- the power went. What it reads is one of the images, its disk's bytes are known to its end, and it keeps its lines.
   pub record RunsBehind (crashed : D) (run : Run D Item) : Type 0 where
     pub found : (image : List ℕ) → disk.images run.before image → disk.images crashed image
     pub bytes : List ℕ
@@ -57,7 +57,7 @@ module _ {State Item Answer : Type 0} (work : ChronicleWork State Item Answer) {
     pub stand : StandsFor work (job.items_with run.old first ++ more) image
     pub answered : (others ≡ []) ⊎ WritesSome run.held run.taken (job.answers_with run.old first)
 
-  -- the image has all that the sink of the run was told, if it was told anything
+  -- the image has the items of each line whose answer the sink of the run took whole, if the sink took anything
   abbrev pub HasAnswers : List ℕ → Run D Item → Type 0
   HasAnswers image run = (run.taken ≡ run.held) ⊎ KeepsAnswered run image
 
@@ -68,6 +68,6 @@ module _ {State Item Answer : Type 0} (work : ChronicleWork State Item Answer) {
     pub meanwhile : (next : Run D Item) → RunsBehind (last_of first runs) next → (image : List ℕ) →
         disk.left_since next.now (disk.moment next.before) image → AllByRecursion (HasAnswers image) runs
 
-  -- this holds of any number of runs
+  -- However many runs are made one behind the other, each item that was answered in any of them is kept.
   abbrev pub LivesKeepAnswers : Type 0
   LivesKeepAnswers = (first : D) (runs : List (Run D Item)) → AreRuns first runs → AnswersAreKept first runs

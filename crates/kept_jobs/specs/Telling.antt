@@ -1,7 +1,8 @@
--- What a kind of disk tells.
+-- What is known of a kind of disk.
 use Rattle.std.specs.Prelude.{ℕ, ◌≡◌, List, Option, Some}
 
--- its bytes, what a crash may leave of it, its moments, what a crash since one of them may have left, and its faults
+-- a kind of disk: its bytes, what a crash may leave of it, its moments, what a crash since one of them may have left,
+-- and its faults
 pub record Telling (D : Type 0) : Type 1 where
   pub bytes : D → Option (List ℕ)
   pub images : D → List ℕ → Type 0
@@ -9,12 +10,12 @@ pub record Telling (D : Type 0) : Type 1 where
   pub left_since : D → ℕ → List ℕ → Type 0
   pub faults : D → ℕ
 
--- all of this together
+-- the kind of disk with these bytes, images, moments and faults
 abbrev pub telling : {D : Type 0} → (D → Option (List ℕ)) → (D → List ℕ → Type 0) → (D → ℕ)
     → (D → ℕ → List ℕ → Type 0) → (D → ℕ) → Telling D
 telling bytes images moment left_since faults =
     record { bytes = bytes; images = images; moment = moment; left_since = left_since; faults = faults }
 
--- the disk tells its bytes: each answer so far was the one of a disk
+-- the bytes of the disk are known: each answer so far was the one of a disk
 abbrev pub Tells : {D : Type 0} → Telling D → D → Type 0
 Tells disk now = (bytes : List ℕ) × (disk.bytes now ≡ Some bytes)

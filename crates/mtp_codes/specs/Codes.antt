@@ -19,7 +19,7 @@ command_codes =
     (Reset, 2) ∷ (Start, 4) ∷ (Stop, 8) ∷ (Hold, 16) ∷ (Unhold, 32) ∷ (Pause, 64) ∷ (Resume, 128) ∷ (Abort, 256)
     ∷ (Restart, 512) ∷ (Complete, 1024) ∷ []
 
--- what stands beside this code in a table, if the table has it
+-- the item beside this code in a table, if the table has the code
 abbrev pub named_by : {A : Type 0} → ℕ → List (A × ℕ) → Option A
 named_by code [] = None
 named_by code (row ∷ rows) = if row.1 == code then Some row.0 else named_by code rows

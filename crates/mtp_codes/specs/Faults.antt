@@ -1,4 +1,4 @@
--- Faults in the order in which they are asked, and what is answered where there is none.
+-- Choosing the first of several faults, and the answer where there is none.
 use Rattle.std.specs.Prelude.{Bool, true, false, List, [], ◌∷◌, Option, Some, None, Result, Ok, Err, ⊤}
 use Rattle.std.specs.Option.{option_or}
 
@@ -7,7 +7,7 @@ abbrev pub when : {A : Type 0} → Bool → A → Option A
 when true value = Some value
 when false value = None
 
--- the first of these that is there
+-- the first value that is there, in a list of optional ones
 abbrev pub first_of : {A : Type 0} → List (Option A) → Option A
 first_of [] = None
 first_of (each ∷ others) = option_or each (first_of others)

@@ -10,7 +10,7 @@ use Rattle.mtp_codes.specs.declared.short.Short.TheInside as kept_text
 abbrev pub name_fields : List ℕ → kept_name.Inside
 name_fields name = record { bytes = padded 32 name; len = length name }
 
--- the fields that keep the bytes in use are the fields themselves
+-- the fields made of a kept name's bytes in use are the fields of that name
 pub name_fields-kept : (fields : kept_name.Inside) → IsKeptName fields.bytes fields.len
     → name_fields (take fields.len fields.bytes) ≡ fields
 name_fields-kept fields kept =
@@ -20,7 +20,7 @@ name_fields-kept fields kept =
 abbrev pub text_fields : List ℕ → kept_text.Inside
 text_fields text = record { bytes = padded 254 text; len = length text }
 
--- the fields that keep the bytes in use are the fields themselves
+-- the fields made of a kept text's bytes in use are the fields of that text
 pub text_fields-kept : (fields : kept_text.Inside) → IsKeptText fields.bytes fields.len
     → text_fields (take fields.len fields.bytes) ≡ fields
 text_fields-kept fields kept =

@@ -12,7 +12,7 @@ is_letter byte = (nat_le 65 byte && nat_le byte 90) || (nat_le 97 byte && nat_le
 abbrev pub is_digit : ℕ → Bool
 is_digit byte = nat_le 48 byte && nat_le byte 57
 
--- the byte may stand in a name: a letter, a digit, `_`, `-` or `.`
+-- the byte may occur in a name: a letter, a digit, `_`, `-` or `.`
 abbrev pub is_name_byte : ℕ → Bool
 is_name_byte byte = is_letter byte || (is_digit byte || (byte == 95 || (byte == 45 || byte == 46)))
 
@@ -24,7 +24,7 @@ is_name bytes = (nat_le 1 (length bytes) && nat_le (length bytes) 32) && list_al
 abbrev pub same_name : List ℕ → List ℕ → Bool
 same_name = bytes_eq
 
--- the name is one of these
+-- the name is one of a list of names
 abbrev pub is_among : List (List ℕ) → List ℕ → Bool
 is_among names name = list_any (λ each. same_name each name) names
 

@@ -1,27 +1,27 @@
 -- Ranges of whole numbers.
 use Rattle.std.specs.Prelude.{ℕ, nat_le, ℤ, pos, negsuc, int_le, Bool, ◌&&◌}
 
--- the least number of 32 bits
+-- the least signed number of 32 bits
 abbrev pub least_i32 : ℤ
 least_i32 = negsuc 2147483647
 
--- the greatest of 32 bits
+-- the greatest signed number of 32 bits
 abbrev pub greatest_i32 : ℤ
 greatest_i32 = pos 2147483647
 
--- the least of 64 bits
+-- the least signed number of 64 bits
 abbrev pub least_i64 : ℤ
 least_i64 = negsuc 9223372036854775807
 
--- the greatest of 64 bits
+-- the greatest signed number of 64 bits
 abbrev pub greatest_i64 : ℤ
 greatest_i64 = pos 9223372036854775807
 
--- the greatest of 32 bits that is not signed
+-- the greatest unsigned number of 32 bits
 abbrev pub greatest_u32 : ℕ
 greatest_u32 = 4294967295
 
--- the greatest of 64 bits that is not signed
+-- the greatest unsigned number of 64 bits
 abbrev pub greatest_u64 : ℕ
 greatest_u64 = 18446744073709551615
 
@@ -29,6 +29,6 @@ greatest_u64 = 18446744073709551615
 abbrev pub is_within : ℤ → ℤ → ℤ → Bool
 is_within low high z = int_le low z && int_le z high
 
--- the same of a number that is not negative
+-- a number that is not negative is from low to high
 abbrev pub is_between : ℕ → ℕ → ℕ → Bool
 is_between low high n = nat_le low n && nat_le n high

@@ -1,4 +1,4 @@
--- Lists in which something stands twice.
+-- Whether a list has two items that are alike.
 use Rattle.std.specs.Prelude.{List, [], ◌∷◌, Bool, false, ◌||◌}
 use Rattle.std.specs.List.{list_any}
 

@@ -1,4 +1,4 @@
-//! How many of each a plant holds.
+//! The limits of a plant: how many modules, recipes, batches, binds and history entries there may be.
 
 /// The most modules that are docked or away.
 pub const MOST_MODULES: usize = 64;

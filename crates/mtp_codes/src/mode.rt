@@ -1,4 +1,4 @@
-//! Who may speak to a service.
+//! The operation modes of a service, who sends it commands, and why a command may not go to it.
 
 /// The operation mode that a service last reported (VDI/VDE/NAMUR 2658 part 4).
 #[derive(Clone, Copy, Debug, PartialEq, Eq)]

@@ -8,7 +8,7 @@ use Rattle.mtp_desc.specs.Plain.{PlainProcedure, PlainService, PlainDescription}
 abbrev pub service_named : List ℕ → PlainDescription → Option PlainService
 service_named named description = find (λ service. bytes_eq service.name named) description.services
 
--- its place among the services, from 0
+-- the place of the service of this name among the services, from 0
 abbrev pub service_place : List ℕ → PlainDescription → Option ℕ
 service_place named description = position (λ service. bytes_eq service.name named) description.services
 
@@ -16,7 +16,7 @@ service_place named description = position (λ service. bytes_eq service.name na
 abbrev pub variable_named : List ℕ → PlainDescription → Option PlainVariable
 variable_named named description = find (λ variable. bytes_eq variable.name named) description.variables
 
--- its place among the variables, from 0
+-- the place of the variable of this name among the variables, from 0
 abbrev pub variable_place : List ℕ → PlainDescription → Option ℕ
 variable_place named description = position (λ variable. bytes_eq variable.name named) description.variables
 
@@ -24,7 +24,7 @@ variable_place named description = position (λ variable. bytes_eq variable.name
 abbrev pub procedure_numbered : ℕ → PlainService → Option PlainProcedure
 procedure_numbered number service = find (λ procedure. procedure.number == number) service.procedures
 
--- the default procedure
+-- the default procedure of a service
 abbrev pub default_procedure : PlainService → Option PlainProcedure
 default_procedure service = find (λ procedure. procedure.is_default) service.procedures
 

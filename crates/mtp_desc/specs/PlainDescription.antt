@@ -1,4 +1,4 @@
--- What a description says.
+-- What contracts see of a description.
 use Rattle.std.specs.Prelude.{map}
 use Rattle.semver.specs.Identifiers.{parts_of}
 use Rattle.mtp_assembly.specs.Plain.{plain_variable}

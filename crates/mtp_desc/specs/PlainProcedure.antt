@@ -1,4 +1,4 @@
--- What a procedure says.
+-- What contracts see of a procedure.
 use Rattle.std.specs.Prelude.{map}
 use Rattle.mtp_assembly.specs.Plain.{plain_param}
 use Rattle.mtp_desc.specs.declared.procedure.Procedure.{Procedure}

@@ -1,4 +1,4 @@
--- What a service says.
+-- What contracts see of a service.
 use Rattle.std.specs.Prelude.{map}
 use Rattle.mtp_desc.specs.declared.service.Service.{Service}
 use Rattle.mtp_desc.specs.Plain.{PlainService}

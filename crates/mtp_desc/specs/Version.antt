@@ -1,4 +1,4 @@
--- What text is a version.
+-- Which texts are versions.
 use Rattle.std.specs.Prelude.{ℕ, List, Result}
 use Rattle.semver.specs.Parse.{Parts, version_parts}
 use Rattle.semver.specs.declared.error.Error.{Error}

@@ -25,7 +25,7 @@ pub struct Description {
     pub type_name: Name,
     /// The version as the description writes it, at most 64 bytes.
     pub version_text: Short,
-    /// The same, read (Semantic Versioning 2.0.0).
+    /// The version, read (Semantic Versioning 2.0.0).
     pub version: Version,
     /// 1 to 32, no two of one name.
     pub services: Vec<Service>,

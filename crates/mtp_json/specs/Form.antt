@@ -11,7 +11,7 @@ use Rattle.mtp_json.specs.ReadResult.{Finding, ReadResult, ◌>>=◌, here, unde
 
 -- ---- one field
 
--- a value by its form, if its key is there: it has to be
+-- a value by its form; Missing where its key is absent
 abbrev pub present : {A : Type 0} → (Data → Finding A) → Option Data → Finding A
 present form None = Err Missing
 present form (Some value) = form value
@@ -20,7 +20,7 @@ present form (Some value) = form value
 abbrev pub field : {A : Type 0} → List ℕ → (Data → Finding A) → Data → Finding A
 field key form value = present form (get key value)
 
--- the same, with the path
+-- the value at a key that must be there, with the key as the path of a fault
 abbrev pub required : {A : Type 0} → List ℕ → (Data → Finding A) → Data → ReadResult A
 required key form value = under key (here (field key form value))
 
@@ -38,12 +38,12 @@ if_present form (Some value) = some_found (form value)
 abbrev pub optional : {A : Type 0} → List ℕ → (Data → Finding A) → Data → ReadResult (Option A)
 optional key form value = under key (here (if_present form (get key value)))
 
--- a value by its form, or what stands for it
+-- a value by its form, or `absent` where its key is absent
 abbrev pub present_or : {A : Type 0} → A → (Data → Finding A) → Option Data → Finding A
 present_or absent form None = Ok absent
 present_or absent form (Some value) = form value
 
--- the value at a key, or what stands for it where the key is absent
+-- the value at a key, or `absent` where the key is absent
 abbrev pub required_or : {A : Type 0} → List ℕ → A → (Data → Finding A) → Data → ReadResult A
 required_or key absent form value = under key (here (present_or absent form (get key value)))
 
@@ -55,7 +55,7 @@ nested key form value =
     required key anything value >>= λ inner.
     under key (form inner)
 
--- the same with a form of its own
+-- a value by a form of its own, if its key is there
 abbrev pub nested_if_present : {A : Type 0} → (Data → ReadResult A) → Option Data → ReadResult (Option A)
 nested_if_present form None = Ok None
 nested_if_present form (Some value) = form value >>= λ found. Ok (Some found)
@@ -85,7 +85,7 @@ abbrev pub each_or_none : {A : Type 0} → List ℕ → (Data → ReadResult A) 
 each_or_none key form None = Ok []
 each_or_none key form (Some values) = under key (each form 0 values)
 
--- the same at a key that may be absent, and then the list is empty
+-- a list of low to high items at a key that may be absent, and then the list is empty
 abbrev pub list_or_none : {A : Type 0} → List ℕ → ℕ → ℕ → (Data → ReadResult A) → Data → ReadResult (List A)
 list_or_none key low high form value =
     optional key (items_in low high) value >>= λ values.
@@ -98,7 +98,7 @@ each_if_there key form (Some values) =
     under key (each form 0 values) >>= λ found.
     Ok (Some found)
 
--- the same at a key that may be absent, and then there is no list
+-- a list of low to high items at a key that may be absent, and then there is no list
 abbrev pub list_if_there : {A : Type 0} → List ℕ → ℕ → ℕ → (Data → ReadResult A) → Data → ReadResult (Option (List A))
 list_if_there key low high form value =
     optional key (items_in low high) value >>= λ values.
@@ -106,7 +106,7 @@ list_if_there key low high form value =
 
 -- ---- the object as a whole
 
--- the members of an object, or none
+-- done where the members of an object were found; else WrongKind
 abbrev pub some_object : Option Members → ReadResult ⊤
 some_object None = here (Err WrongKind)
 some_object (Some _) = Ok tt
@@ -128,16 +128,16 @@ abbrev pub all_listed : List ℕ → Members → Bool
 all_listed keys no_members = true
 all_listed keys (member key value rest) = is_listed keys key && all_listed keys rest
 
--- members that were found, or none, against the keys that may stand there
+-- members that were found, or none, against the keys that are allowed
 abbrev pub listed_members : List ℕ → Option Members → Finding ⊤
 listed_members keys None = Err WrongKind
 listed_members keys (Some members) = if all_listed keys members then Ok tt else Err Unknown
 
--- an object with no key but these, which stand in one text
+-- an object with no key but these, which are given in one text
 abbrev pub only_keys : List ℕ → Data → Finding ⊤
 only_keys keys value = listed_members keys (as_object value)
 
--- the same as a step of reading
+-- an object with no key but these, as a step of reading
 abbrev pub nothing_but : List ℕ → Data → ReadResult ⊤
 nothing_but keys value = here (only_keys keys value)
 

@@ -1,4 +1,4 @@
--- Values that stand by themselves: numbers in a range, truth values, texts, names, lists and objects.
+-- Values that are read by themselves: numbers in a range, truth values, texts, names, lists and objects.
 use Rattle.std.specs.Prelude.{ℕ, nat_le, ℤ, pos, negsuc, List, [], ◌∷◌, length, Bool, Option, Some, None, option_and_then, Result, Ok, Err, if◌then◌else◌}
 use Rattle.std.specs.Str.{bytes_eq}
 use Rattle.serde_json.specs.Data.{Data, null, boolean, number, string, array, object, Items, Members}
@@ -41,13 +41,13 @@ whole_in low high (Some z) = if is_within low high z then Ok z else Err OutOfRan
 abbrev pub whole : ℤ → ℤ → Data → Finding ℤ
 whole low high value = whole_in low high (whole_number value)
 
--- the same of numbers that are not negative
+-- a whole number that was found, or none, against a range without negative numbers
 abbrev pub count_in : ℕ → ℕ → Option ℤ → Finding ℕ
 count_in low high None = Err WrongKind
 count_in low high (Some (pos n)) = if is_between low high n then Ok n else Err OutOfRange
 count_in low high (Some (negsuc n)) = Err OutOfRange
 
--- the same of numbers that are not negative
+-- a whole number from low to high, which are not negative
 abbrev pub count : ℕ → ℕ → Data → Finding ℕ
 count low high value = count_in low high (whole_number value)
 
@@ -56,7 +56,7 @@ abbrev pub code_in : {A : Type 0} → List (A × ℕ) → Finding ℕ → Findin
 code_in table (Ok code) = or_out_of_range (named_by code table)
 code_in table (Err kind) = Err kind
 
--- a whole number of 32 bits that is a code of the table, as what stands beside it
+-- a whole number of 32 bits that is a code of the table, as the item beside it
 abbrev pub code : {A : Type 0} → List (A × ℕ) → Data → Finding A
 code table value = code_in table (count 0 greatest_u32 value)
 
@@ -86,7 +86,7 @@ name_in (Some bytes) = if is_name bytes then Ok bytes else Err OutOfRange
 abbrev pub name : Data → Finding (List ℕ)
 name value = name_in (as_str value)
 
--- what stands beside this text in a table, if the table has it
+-- the item beside this text in a table, if the table has the text
 abbrev pub meaning_of : {A : Type 0} → List ℕ → List (List ℕ × A) → Option A
 meaning_of bytes [] = None
 meaning_of bytes (row ∷ rows) = if bytes_eq bytes row.0 then Some row.1 else meaning_of bytes rows
@@ -96,7 +96,7 @@ abbrev pub word_in : {A : Type 0} → List (List ℕ × A) → Option (List ℕ)
 word_in table None = Err WrongKind
 word_in table (Some bytes) = or_out_of_range (meaning_of bytes table)
 
--- a text that stands in the table, as what stands beside it
+-- a text of the table, as the item beside it
 abbrev pub word : {A : Type 0} → List (List ℕ × A) → Data → Finding A
 word table value = word_in table (as_str value)
 

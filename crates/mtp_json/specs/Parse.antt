@@ -1,4 +1,4 @@
--- What value the bytes of a text are.
+-- Which JSON value the bytes of a text are.
 use Rattle.std.specs.Prelude.{ℕ, List, Option, Some, None, Ok, Err, if◌then◌else◌}
 use Rattle.std.specs.Str.{is_utf8}
 use Rattle.serde_json.specs.Data.{Data}

@@ -13,7 +13,7 @@ abbrev pub seen : {X Y E : Type 0} → (X → Y) → Result X E → Result Y E
 seen view (Ok value) = Ok (view value)
 seen view (Err error) = Err error
 
--- a refusal is the form's fault, or want of memory
+-- a refusal is the form's fault, or says that there was no memory
 abbrev pub IsFaultOrMemory : {Y : Type 0} → JsonRefusal → ReadResult Y → Type 0
 IsFaultOrMemory Memory read = Unit {0}
 IsFaultOrMemory (Fault fault) read = read ≡ Err fault

@@ -15,7 +15,8 @@ use crate::placed::{in_place, under};
 use serde_json::Value;
 use std::alloc::Global;
 
-/// A form by which the values of one type are read from JSON. It stands for a crate's own form of a type of any crate.
+/// A form by which the values of one type are read from JSON. By it a crate may have its own form of a type of any
+/// crate.
 pub trait FromJson {
     type Item: Drop;
 
@@ -73,7 +74,7 @@ pub fn list_of<T: FromJson>(
     read_under::<T>(alloc, key, values)
 }
 
-/// The same at a key that may be absent, and then the list is empty.
+/// A list of `low` to `high` items at a key that may be absent, and then the list is empty.
 pub fn list_or_none<T: FromJson>(
     alloc: Global,
     object: &Value,
@@ -92,7 +93,7 @@ pub fn list_or_none<T: FromJson>(
     }
 }
 
-/// The same at a key that may be absent, and then there is no list.
+/// A list of `low` to `high` items at a key that may be absent, and then there is no list.
 pub fn list_if_there<T: FromJson>(
     alloc: Global,
     object: &Value,
@@ -132,7 +133,7 @@ pub fn form_at<T: FromJson>(
     form_under::<T>(alloc, key, value)
 }
 
-/// The same at a key that may be absent.
+/// The value at a key that may be absent, by its type's form.
 pub fn form_if_there<T: FromJson>(
     alloc: Global,
     object: &Value,

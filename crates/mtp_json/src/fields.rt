@@ -112,7 +112,7 @@ fn all_listed(keys: &str, map: &Map<String, Value>) -> bool
     lists_all(keys, map)
 }
 
-/// Whether it is an object with no key but these, which stand in one text with one space between neighbours:
+/// Whether the value is an object with no key but these, which are given in one text with one space between neighbours:
 /// WrongKind for what is no object, Unknown for another key.
 pub fn only(object: &Value, keys: &str) -> Result<(), FaultKind>
     ensures { result ≡ only_keys keys.now (view object.now) }

@@ -1,4 +1,4 @@
-//! Values that stand by themselves, or what is wrong with them.
+//! Values that are read by themselves, or what is wrong with them.
 
 ghost use Rattle.std.specs.Prelude.{◌≡◌, IfOk, IsTrue};
 ghost use Rattle.serde_json.specs.Data.{string};

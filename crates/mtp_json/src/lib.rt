@@ -2,7 +2,7 @@
 //!
 //! A form is a definition over the value that `serde_json` reads (`specs/Form.antt`): the value that is meant, or the
 //! first fault in reading order with its path. Every reader here has the one clause that it gives what its form gives
-//! (`specs/Gives.antt`), and every writer says which value it writes. The crates above write forms and nothing else.
+//! (`specs/ReadsAs.antt`), and every writer says which value it writes. The crates above write forms and nothing else.
 //! This crate knows nothing of descriptions, recipes, events or sites.
 //!
 //! Tried in `mtp_examples`.

@@ -1,4 +1,4 @@
-//! Where in a JSON value a part of it stands.
+//! The path to a part of a JSON value.
 
 ghost use Rattle.std.specs.Prelude.{◌≡◌, ◌++◌, ◌∷◌, [], IfOk, OnOk, OnErr, decimal};
 ghost use Rattle.std.specs.Str.{IsUtf8};

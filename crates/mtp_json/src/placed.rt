@@ -101,8 +101,8 @@ pub fn object_here(alloc: Global, value: &Value) -> Result<(), JsonRefusal>
     here(alloc, found)
 }
 
-/// Asks that the object has no key but these, which stand in one text with one space between neighbours: else Unknown
-/// at the object's path.
+/// Asks that the object has no key but these, which are given in one text with one space between neighbours: else
+/// Unknown at the object's path.
 pub fn nothing_but(alloc: Global, object: &Value, keys: &str) -> Result<(), JsonRefusal>
     ensures { ReadsAs (λ unit. unit) result (nothing_but keys.now (view object.now)) }
 {
@@ -118,7 +118,7 @@ pub fn refused_if(alloc: Global, broken: bool, kind: FaultKind) -> Result<(), Js
     here(alloc, found)
 }
 
-/// The same with the path of a key.
+/// A rule of a form's own: a fault of this kind, at the path of a key, where the rule is broken.
 #[tactic(auto, using(crate::proofs::Each::gives_below))]
 pub fn refused_under(
     alloc: Global,

@@ -1,4 +1,4 @@
-//! Values that stand as words in JSON.
+//! Values that are written as words in JSON.
 
 ghost use Rattle.std.specs.Prelude.{◌≡◌, ℕ, List};
 ghost use Rattle.mtp_json.specs.Leaf.{meaning_of};

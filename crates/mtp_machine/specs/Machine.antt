@@ -8,7 +8,7 @@ use Rattle.mtp_codes.specs.declared.state.State.TheVariants.{Stopped, Starting, 
 use Rattle.mtp_codes.specs.declared.command.Command.{Command}
 use Rattle.mtp_codes.specs.declared.command.Command.TheVariants.{Reset, Start, Stop, Hold, Unhold, Pause, Resume, Abort, Restart, Complete}
 
--- from a state, by a command, to a state
+-- where commands lead: from a state, by a command, to a state
 abbrev pub commanded : List (State × Command × State)
 commanded =
     (Completed, Reset, Resetting) ∷ (Stopped, Reset, Resetting) ∷ (Aborted, Reset, Resetting)

@@ -46,7 +46,7 @@ runs_through description service = self_completes service.name service.procedure
 abbrev pub control_now : PlainDescription → SimService → ServiceControl
 control_now description service = control_in (runs_through description service) service.procedure service.state
 
--- it is this state
+-- an optional state is this one
 abbrev pub is_state : State → Option State → Bool
 is_state state None = false
 is_state state (Some other) = same_state other state
@@ -122,7 +122,7 @@ abbrev pub next_value : Drift → Option ℤ → Option ℤ
 next_value drift None = Some drift.from
 next_value drift (Some last) = if int_lt last drift.to then Some (at_most drift.to (last +ℤ drift.by)) else None
 
--- the value that a tick reports which looks at a drift
+-- the value that a tick reports when it looks at a drift, if any
 abbrev pub value_told : Bool → SimDrift → Option ℤ
 value_told executing drift = if executing || is_none drift.last then next_value (drift_in drift) drift.last else None
 
@@ -140,7 +140,7 @@ drifts_after drifts place drift (Some value) = slice_set drifts place (reported_
 abbrev pub place_after : ℕ → ℕ → ℕ
 place_after count place = if nat_le count (place + 1) then 0 else place + 1
 
--- the module with the next place
+-- the module with these services and drifts, at its next place
 abbrev pub moved : PlainSim → List SimService → List SimDrift → PlainSim
 moved sim services drifts =
     record {
@@ -176,19 +176,19 @@ limit_of sim service = ticks_of sim.ticks sim.run service.state
 abbrev pub ticked_service : PlainSim → SimService → SimService
 ticked_service sim service = service_ticked sim.description (limit_of sim service) service
 
--- what the tick reports that looks at a service
+-- what a tick reports when it looks at a service
 abbrev pub service_report : PlainSim → SimService → Option SimReport
 service_report sim service =
     if is_reported sim.description (limit_of sim service) service
     then Some (report_of sim.description (ticked_service sim service))
     else None
 
--- what the tick reports that looks at a drift
+-- what a tick reports when it looks at a drift, if there is one
 abbrev pub drift_report : PlainSim → Option SimDrift → Option SimReport
 drift_report sim None = None
 drift_report sim (Some drift) = option_map (variable_report drift.name) (value_told (is_executing sim.services) drift)
 
--- what a tick reports
+-- what a tick reports, by the service at its place, if there is one
 abbrev pub report_by : PlainSim → Option SimService → Option SimReport
 report_by sim (Some service) = service_report sim service
 report_by sim None = drift_report sim (drift_here sim)
@@ -204,7 +204,7 @@ ticked_at_drift sim (Some drift) =
     moved sim sim.services
     (drifts_after sim.drifts (sim.place - length sim.services) drift (value_told (is_executing sim.services) drift))
 
--- the module after a tick
+-- the module after a tick, by the service at its place, if there is one
 abbrev pub ticked_at : PlainSim → Option SimService → PlainSim
 ticked_at sim (Some service) = moved sim (slice_set sim.services sim.place (ticked_service sim service)) sim.drifts
 ticked_at sim None = ticked_at_drift sim (drift_here sim)

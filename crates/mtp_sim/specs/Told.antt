@@ -22,7 +22,7 @@ MayTell (Some last) state = IsEdge last state
 abbrev pub IsNext : SimService → Type 0
 IsNext service = (service.last ≡ Some service.state) ⊎ MayTell service.last service.state
 
--- each of the services is
+-- each service is in the state that it reported last, or in one that it may report next
 abbrev pub AreNext : List SimService → Type 0
 AreNext services = AllByRecursion IsNext services
 
@@ -51,16 +51,17 @@ pub record TicksRightly (sim : PlainSim) : Type 0 where
   pub edges : IfSome (tick_report sim) (FollowsEdges sim)
   pub stays : StayUntold sim (ticked sim)
 
--- the services of a module at first are where they may be
+-- The services of a module at first are in states that they may report.
 abbrev pub FirstModulesFollowEdges : Type 0
 FirstModulesFollowEdges =
     (description : PlainDescription) (plan : PlainPlan) → AreNext (first_sim description plan).services
 
--- every tick of a module whose services are where they may be does so rightly
+-- Every tick of a module whose services are in states that they reported or may report keeps them so, reports what it
+-- may, and leaves no state before it was reported.
 abbrev pub TicksFollowEdges : Type 0
 TicksFollowEdges = (sim : PlainSim) → AreNext sim.services → TicksRightly sim
 
--- a command keeps each service where it may be, where nothing is pending
+-- Where nothing is pending, a command keeps each service in a state that it reported or may report.
 abbrev pub CommandsFollowEdges : Type 0
 CommandsFollowEdges =
     (sim : PlainSim) (service : List ℕ) (command : Command) (procedure : ℕ) → is_pending sim ≡ false →

@@ -6,7 +6,7 @@ ghost use Rattle.mtp_sim.specs.Ticks.{at_most, is_left, is_silent, next_value, v
 use super::plan::Drift;
 use mtp_codes::Name;
 
-/// How a drifting variable stands: its drift, and the value that it reported last.
+/// The state of a drifting variable: its drift, and the value that it reported last.
 #[derive(Clone, Copy)]
 pub struct SimDrift {
     /// The variable's name.
@@ -71,7 +71,8 @@ impl SimDrift {
         self.next_value().is_some()
     }
 
-    /// The value that a tick reports which looks at it: the first one, or while a service executes the next one.
+    /// The value that a tick reports when it looks at the drift: the first one, or while a service executes the next
+    /// one.
     pub fn value_told(&self, executing: bool) -> Option<i64>
         ensures { result ≡ value_told executing self.now }
     {

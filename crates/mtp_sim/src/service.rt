@@ -13,7 +13,7 @@ use mtp_codes::{Command, Mode, Name, Origin, State};
 use mtp_desc::Description;
 use mtp_machine::{by_command, by_itself, enabled_from};
 
-/// How a service of a simulated module stands.
+/// The state of a service of a simulated module.
 #[derive(Clone, Copy)]
 pub struct SimService {
     /// The service's name.
@@ -98,7 +98,7 @@ impl SimService {
         }
     }
 
-    /// The report of it.
+    /// The report of the service.
     pub fn report(&self, description: &Description) -> SimReport
         ensures { result ≡ report_of (plain_description description.now) self.now }
     {

@@ -221,9 +221,9 @@ impl Sim {
         true
     }
 
-    /// A service takes a command, for a start with this procedure, 0 being the default one. It does where it is there,
-    /// the command leaves its state, it isn't Complete for a procedure that completes by itself, and the procedure of a
-    /// start is there. The answer is whether it does; if not, nothing changed.
+    /// A service takes a command, for a start with this procedure, 0 being the default one. It does where the service
+    /// is there, the command leaves its state, it isn't Complete for a procedure that completes by itself, and the
+    /// procedure of a start is there. The answer is whether it does; if not, nothing changed.
     pub fn take(&mut self, service: Name, command: Command, procedure: u16) -> bool
         requires calm { is_pending self.old ≡ false }
         ensures taken { result ≡ is_some (took self.old service command procedure) }

@@ -56,7 +56,7 @@ row_of word (row ∷ rows) = if bytes_eq word row.0 then Some row.1 else row_of 
 abbrev pub form_named : Text → Option JobForm
 form_named word = row_of word job_words
 
--- ---- their numbers
+-- ---- the numbers that jobs take
 
 -- a text is this number in decimal, a plus before it allowed, and it is at most 4294967295
 pub record IsSeed (seed : ℕ) (text : Text) : Type 0 where
@@ -70,7 +70,7 @@ pub record IsWatchers (count : ℕ) (text : Text) : Type 0 where
   pub number : count ≡ digits_value 10 (without_leading_plus text)
   pub in_range : count ≤ MOST_WATCHERS
 
--- there are this many watchers: none where no text says it
+-- there are this many watchers: none where no text is given
 abbrev pub IsCount : ℕ → Option Text → Type 0
 IsCount count None = count ≡ 0
 IsCount count (Some text) = IsWatchers count text

@@ -24,7 +24,7 @@ pub enum SerialTask {
     Demo(u32),
     /// `--job audit`: read what the plant prints, and say whether it is a true history.
     Audit,
-    /// `--job attest`: an audit that tells which bytes it read.
+    /// `--job attest`: an audit that says which bytes it read.
     Attest,
     /// `--job find`: answer a journal in silence, and say how each recipe could be bound then.
     Find,
@@ -202,8 +202,8 @@ fn task_of(form: JobForm, seed: Option<&str>, watchers: Option<&str>) -> Option<
     }
 }
 
-/// The task that the words ask for; the first word is the program's name. Refused are exactly the words that ask for
-/// no task: those that `clap` refuses for another cause than memory, a job that there isn't, a demo without a seed from
+/// The task that the words ask for; the first word is the program's name. Refused are exactly the words that ask for no
+/// task: those that `clap` refuses for another cause than memory, a job that doesn't exist, a demo without a seed from
 /// 0 to 4294967295, another job with a seed, a plant with watchers other than 0 to 16, and another job with watchers.
 pub fn read_words(alloc: Global, words: &[String]) -> Result<Task, WordFault>
     ensures ok { IfOk result (Means (texts_of words.now)) }

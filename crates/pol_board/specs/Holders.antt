@@ -3,7 +3,7 @@ use Rattle.std.specs.Prelude.{ℕ, List, refl}
 use Rattle.std.specs.Coded.{Coded, code_by, coded×, coded_ℕ, coded_list}
 use Rattle.atomic_table.specs.Seated.{TableId, table_id_coded}
 
--- which board it is at, and the words that it published, or saw or was told of
+-- a seat: which board it is at, and the words that it published, or saw or learnt of
 pub record Holder : Type 0 where
   pub board : TableId
   pub words : List ℕ

@@ -1,4 +1,4 @@
--- The rule of the board over its words and what its seats remember, and what each kind of step tells.
+-- The rule of the board over its words and what its seats remember, and what each kind of step makes known.
 use Rattle.std.specs.Prelude.{◌≡◌, ◌≢◌, ℕ, true, false, List, [], slice_index, slice_set}
 use mathlib.Core.Option.{some}
 use lib.ListN.{get_elem?}
@@ -11,15 +11,14 @@ abbrev pub remembers : List ℕ → Remembered
 remembers words = record { spent = false; words = words }
 
 -- The rule of a board: each word says some number and state; seat 0, the publisher, remembers the words as they are;
--- each
--- other seat that isn't spent remembers them as they are or as they were.
+-- each other seat that isn't spent remembers them as they are or as they were.
 pub record IsBoard (words : List ℕ) (seats : List Remembered) : Type 0 where
   pub coded : (place : ℕ) → IsWord (slice_index words place)
   pub first : get_elem? seats 0 ≡ some (remembers words)
   pub others : (number : ℕ) (seat : Remembered) → get_elem? seats number ≡ some seat → seat.spent ≡ false
       → AreOlder seat.words words
 
--- the rule, of a table's state
+-- the rule holds of a table's state
 abbrev pub KeepsRule : State ℕ Remembered → Type 0
 KeepsRule board = IsBoard board.words board.views
 
@@ -43,7 +42,7 @@ spent = record { spent = true; words = [] }
 abbrev pub newer_of : Remembered → Remembered → Remembered
 newer_of seat other = remembers (newer_words seat.words other.words)
 
--- two seats of readers become one, and the rule stays
+-- Where two seats of readers become one, the rule of the board still holds.
 abbrev pub JoinsKeepTheRule : Type 0
 JoinsKeepTheRule =
     (number other : ℕ) (seat second : Remembered) → number ≢ 0 → other ≢ 0 → seat.spent ≡ false → second.spent ≡ false

@@ -29,7 +29,7 @@ impl Board {
     ///
     /// # Errors
     ///
-    /// AllocError where memory is wanting.
+    /// AllocError where there is no memory.
     pub fn new(alloc: Global, words: u32) -> Result<(Board, Publisher), AllocError>
         requires { (0 < words) × (words ≤ 2048) }
         ensures words { IfOk result (λ made. made.0.words ≡ words) }

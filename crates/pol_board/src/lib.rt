@@ -1,7 +1,7 @@
 //! The status board: one publisher stores words, and readers load them without ever waiting.
 //!
 //! A word says the state that a service reported last, beside a number that only rises. What a reader finds at a word
-//! is what it saw or was told of there before, or something newer: `Reader::read` never goes back. The crate knows
+//! is what it saw or learnt of there before, or something newer: `Reader::read` never goes back. The crate knows
 //! nothing of plants, modules, threads or locks: who publishes what, and when, is said where a board is used.
 //!
 //! Tried in `io_examples`.

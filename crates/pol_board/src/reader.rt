@@ -9,7 +9,7 @@ use atomic_table::Seat;
 use mtp_codes::State;
 use std::marker::Model;
 
-/// A reader of a board. Contracts see its board, and at each word what it saw there last or was told of.
+/// A reader of a board. Contracts see its board, and at each word what it saw there last or learnt of.
 #[derive(Drop)]
 pub struct Reader {
     pub(crate) seat: Seat<u8, Remembered>,
@@ -30,7 +30,7 @@ impl Model for Reader {
 
 impl Reader {
     /// The number and the state of a word, None exactly where it says no state. The word is the one that this reader
-    /// saw or was told of there before, or one with a higher number. It never waits.
+    /// saw or learnt of there before, or one with a higher number. It never waits.
     pub fn read(&mut self, board: &Board, word: u32) -> (u64, Option<State>)
         requires board { self.old.board ≡ board.now }
         requires word { word < board.now.words }

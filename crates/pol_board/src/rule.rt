@@ -2,7 +2,7 @@
 //! it.
 use atomic_table::{Play, Split, TableRule};
 
-/// What a seat remembers of the words: each as it saw it last or was told of it. A seat that was joined to another is
+/// What a seat remembers of the words: each as it saw it last or learnt of it. A seat that was joined to another is
 /// spent. It lives in proofs alone; no value of it is made.
 pub struct Remembered {
     /// Whether the seat was joined to another one.

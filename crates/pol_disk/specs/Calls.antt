@@ -10,11 +10,11 @@ abbrev pub deed_of : Call → Deed
 deed_of Synced = synced
 deed_of (Wrote at size over) = wrote at size over.items
 
--- of calls that stand oldest first: newest first
+-- what contracts see of calls that are listed oldest first, with the newest first
 abbrev pub deeds_of : List Call → List Deed
 deeds_of calls = reverse (map deed_of calls)
 
--- a piece was written, and one more call stands in the record, which gives the old bytes back
+-- a piece was written, and one more call is in the record, which gives the old bytes back
 pub record IsWritten (at : ℕ) (piece old new : List ℕ) (calls calls' : List Call) : Type 0 where
   pub over : List ℕ
   pub holds : Holds at piece old new

@@ -1,24 +1,24 @@
 -- What a call does to the bytes that reads give and to what a crash may leave.
 use Rattle.std.specs.Prelude.{◌≡◌, ◌⊎◌, ◌+◌, ◌≤◌, ℕ, max, List, ◌++◌, length, take, drop, Option, None, Some, ⊤, IfSome}
 
--- P holds of the bytes told before a call and of those told after it; a disk that told none goes on telling none
+-- bytes are known before a call and after it, and P holds of them; or they are known neither before nor after
 abbrev pub BothTell : (List ℕ → List ℕ → Type 0) → Option (List ℕ) → Option (List ℕ) → Type 0
 BothTell P None None = ⊤
 BothTell P None (Some new) = ⊥
 BothTell P (Some old) None = ⊥
 BothTell P (Some old) (Some new) = P old new
 
--- what is told after a call was told before it
+-- the bytes that are known after a call, if any are, were known before it
 abbrev pub StillTells : Option (List ℕ) → Option (List ℕ) → Type 0
 StillTells old new = IfSome new (λ all. old ≡ Some all)
 
--- a disk that tells its bytes after a call told them before it
+-- a disk whose bytes are known after a call had known bytes before it
 abbrev pub ToldOn : Option (List ℕ) → Option (List ℕ) → Type 0
 ToldOn old None = ⊤
 ToldOn None (Some new) = ⊥
 ToldOn (Some old) (Some new) = ⊤
 
--- the bytes that a disk told, where it tells its bytes still
+-- the bytes that were known of a disk, where its bytes are known still
 abbrev pub told_through : Option (List ℕ) → Option (List ℕ) → Option (List ℕ)
 told_through old None = None
 told_through old (Some new) = old
@@ -55,7 +55,7 @@ Follows step old new = (image : List ℕ) → new image → (before : List ℕ) 
 abbrev pub Only : List ℕ → (List ℕ → Type 0) → Type 0
 Only bytes images = (image : List ℕ) → images image → image ≡ bytes
 
--- what reads give, where it is told, is one of the images
+-- what reads give, where it is known, is one of the images
 abbrev pub IsImage : Option (List ℕ) → (List ℕ → Type 0) → Type 0
 IsImage bytes images = IfSome bytes images
 

@@ -14,13 +14,13 @@ abbrev pub undone : List ℕ → Deed → List ℕ
 undone bytes synced = bytes
 undone bytes (wrote at size over) = take at bytes ++ over ++ drop (at + size) bytes
 
--- what the last sync kept; the calls stand newest first
+-- what the last sync kept; the calls are listed newest first
 abbrev pub kept_of : List ℕ → List Deed → List ℕ
 kept_of bytes [] = bytes
 kept_of bytes (synced ∷ deeds) = bytes
 kept_of bytes (wrote at size over ∷ deeds) = kept_of (undone bytes (wrote at size over)) deeds
 
--- the ranges that were written since
+-- the ranges that were written since the last sync
 abbrev pub ranges_of : List Deed → List Range
 ranges_of [] = []
 ranges_of (synced ∷ deeds) = []
@@ -42,7 +42,7 @@ pub record DiskRecord : Type 0 where
   pub deeds : List Deed
   pub faults : ℕ
 
--- each byte that was written since the last sync is this one, and all others are as reads give them
+-- each byte that was written since the last sync is the filling one, and all others are as reads give them
 pub record IsFilled (fill : ℕ) (ranges : List Range) (bytes filled : List ℕ) : Type 0 where
   pub long : length filled ≡ length bytes
   pub each : (place : ℕ) → place < length bytes
@@ -64,7 +64,7 @@ pub left_now : (bytes : List ℕ) (deeds : List Deed) (t : ℕ) (image : List �
 left_now bytes [] t image le now = (le, now)
 left_now bytes (deed ∷ deeds) t image le now = inl (le, now)
 
--- and since now nothing else is
+-- what a crash left since the last call is what it may leave now
 pub left_only_now : (bytes : List ℕ) (deeds : List Deed) (image : List ℕ) → LeftSince bytes deeds (length deeds) image →
     IsLeft bytes deeds image
 left_only_now bytes [] image left = left.1

@@ -8,13 +8,13 @@ ghost use Rattle.pol_disk.specs.Disks.{BothTell, Elapses, Follows, Holds, IsImag
 use pol_io::Failed;
 
 /// A disk: bytes that are read and written at any place, and that outlive a crash once they are synced. A call fails
-/// only where the count of faults rose in it. Where a length or a read was other than the bytes that were told, the
-/// disk tells no bytes any more; so what it tells after a call is what the call answered by.
+/// only where the count of faults rose in it. Where a length or a read differs from the bytes that were known, no bytes
+/// are known any more; so a call answered by the bytes that are known after it.
 pub trait Disk {
-    /// The bytes that reads give, where the disk tells them. One of which a sync failed needn't.
+    /// The bytes that reads give, where they are known. After a sync failed they needn't be.
     ghost bytes: { Self → Option (List ℕ) };
 
-    /// The images: what a crash now may leave. A disk that doesn't tell its bytes may leave anything.
+    /// The images: what a crash now may leave. A disk whose bytes aren't known may leave anything.
     ghost images: { Self → List ℕ → Type 0 };
 
     /// The moment: a count that never falls.
@@ -62,9 +62,9 @@ pub trait Disk {
             (left_since self.old) (left_since self.new) (images self.new) }
         ensures cause { HasCause (faults self.old) (faults self.new) result };
 
-    /// After it a crash leaves what reads give, and nothing else. After `Failed` a disk may tell nothing more until it
-    /// is opened anew: a kernel may take for written what never came to the device, so that reads give it, and no
-    /// later sync brings it there.
+    /// After it a crash leaves what reads give, and nothing else. After `Failed` nothing more may be known of a disk
+    /// until it is opened anew: a kernel may take for written what never reached the device, so that reads give it, and
+    /// no later sync brings it there.
     fn sync(&mut self) -> Result<(), Failed>
         ensures durable { OnOk result (IfSome (bytes self.old) (λ all. Only all (images self.new))) }
         ensures bytes { OnOk result (bytes self.new ≡ bytes self.old) }

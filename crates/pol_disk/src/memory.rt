@@ -1,4 +1,4 @@
-//! A disk in memory that stops when it is told to. It keeps a record of its calls, and with it tells its images.
+//! A disk in memory that can be made to stop. It keeps a record of its calls, by which its images are known.
 ghost use Rattle.std.specs.Prelude.{◌≡◌, ◌+◌, ◌<◌, ◌≤◌, ℕ, List, [], ◌∷◌, ◌++◌, Some, IfOk, OnOk, OnErr, IsOk, length, take, drop, reverse, map, set, if◌then◌else◌};
 ghost use Rattle.pol_io.specs.Causes.{HasCause, Rose};
 ghost use Rattle.pol_disk.specs.Remains.{is_within};
@@ -17,13 +17,13 @@ use std::marker::Model;
 pub enum Call {
     /// All that was written is kept.
     Synced,
-    /// A piece was written; it stands over the bytes that stood there before.
+    /// A piece was written over the bytes that were there before.
     Wrote {
         /// The place of its first byte.
         at: u64,
         /// How many bytes it has.
         size: u64,
-        /// What stood there before; fewer bytes, where the disk was shorter.
+        /// The bytes that were there before; fewer of them, where the disk was shorter.
         over: Vec<u8>,
     },
 }
@@ -174,7 +174,7 @@ impl MemoryDisk {
         })
     }
 
-    /// Its bytes.
+    /// The disk's bytes.
     pub fn bytes(&self) -> &[u8]
         ensures { result.now ≡ self.now.bytes }
     {
@@ -210,7 +210,7 @@ impl MemoryDisk {
         }
     }
 
-    // A fault.
+    // Counts a fault.
     fn fail(&mut self) -> Failed
         ensures rose { Rose self.old.faults self.new.faults }
         ensures later { self.old.faults ≤ self.new.faults }

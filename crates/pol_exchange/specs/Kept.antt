@@ -7,7 +7,7 @@ pub record Kept (T : Type 0) : Type 0 where
   pub ticket : ℕ
   pub part : T
 
--- it is stored as the pair of its fields
+-- a kept part is stored as the pair of its fields
 abbrev pub kept_code : {T : Type 0} → Coded T → Coded (Kept T)
 kept_code {T} code =
     code_by

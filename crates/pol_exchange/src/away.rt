@@ -49,7 +49,7 @@ impl<T> Away<T> {
 
     /// Docks `part` in place of the old part, and hands the old one out.
     ///
-    /// A ticket that is not the kept one hands everything back.
+    /// Where the ticket is not the kept one, everything is handed back.
     pub fn finish(self, ticket: u32, part: T) -> Result<(Docked<T>, T), (Away<T>, T, WrongTicket)>
         ensures { result ≡ (if ticket == self.ticket
             then Ok (part, self.part)
@@ -63,7 +63,7 @@ impl<T> Away<T> {
 
     /// Docks the old part again.
     ///
-    /// A ticket that is not the kept one hands everything back.
+    /// Where the ticket is not the kept one, everything is handed back.
     pub fn cancel(self, ticket: u32) -> Result<Docked<T>, (Away<T>, WrongTicket)>
         ensures { result ≡ (if ticket == self.ticket
             then Ok self.part

@@ -37,8 +37,8 @@ enum Stage {
 
 /// A regular file, opened and locked at the first call, and made where there is none. No link is followed at its name.
 /// Each error counts as a fault, and so does a lock that another holds, on the file or on its folder. Once a sync
-/// failed each call fails. What it tells of its bytes and images it tells by its calls with their answers, from what
-/// the file held at first, which `S` stands for; once an answer was no disk's it tells no bytes any more.
+/// failed each call fails. What is known of its bytes and images is known by its calls with their answers, from what
+/// the file held at first, which `S` stands for; once an answer was no disk's, no bytes are known any more.
 #[derive(Drop)]
 pub struct FileDisk<'a, S: Start> {
     rt: &'a HostRuntime,
@@ -107,7 +107,7 @@ impl<'a, S: Start> FileDisk<'a, S> {
         Ok(())
     }
 
-    // A fault; that it is another's lock is noted.
+    // Counts a fault; that it comes from another's lock is noted.
     fn fail(&mut self, error: &io::Error) -> Failed
         ensures rose { Rose self.old.faults self.new.faults }
         ensures later { self.old.faults ≤ self.new.faults }

@@ -1,13 +1,13 @@
-//! A file as a disk.
+//! A file of the operating system as a `Disk`.
 //!
-//! What stands in a file no proof can know. So `FileDisk` notes each call with its answer, in a record that clauses
-//! alone read, and what it tells of its bytes and images is what this record says: of whatever the file held, which a
-//! `Start` stands for, as long as the file answered as a disk does. Proved is that it meets `Disk` so, and when a call
-//! fails. Believed is that it makes the calls that it notes and notes what they answered (`file.rt` and `opening.rt`
-//! have to be read for this), that a device has what a sync brought it and loses nothing but what was written since,
-//! and that nobody else writes to the file.
+//! No proof can know what is in a file. So `FileDisk` notes each call with its answer, in a record that clauses alone
+//! read, and what is known of its bytes and images is what this record says: from whatever the file held at first,
+//! which a `Start` stands for, as long as the file answered as a disk does. It is proved that `FileDisk` so meets
+//! `Disk`, and when a call fails. It is believed that it makes the calls that it notes and notes what they answered
+//! (`file.rt` and `opening.rt` have to be read for this), that a device has what a sync brought it and loses nothing
+//! but what was written since, and that nobody else writes to the file.
 //!
-//! A `FileToRead` is only read, and tells nothing.
+//! A `FileToRead` is only read, and nothing is known of its bytes.
 //!
 //! Tried by tests of its own.
 #![tactic(auto)]

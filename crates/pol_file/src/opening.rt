@@ -23,12 +23,12 @@ const MODE: u32 = 0o644;
 // The highest number of a standard stream.
 const LAST_STREAM: i32 = 2;
 
-// Where Linux tells a process its limits, and how it names the one on the length of a file.
+// Where Linux shows a process its limits, and how it names the one on the length of a file.
 const LIMITS: &str = "/proc/self/limits";
 
 const LIMIT_ON_LENGTH: &str = "Max file size";
 
-// Opens the file that is there. Since an open follows links, what stands at its name is looked at before and after.
+// Opens the file that is there. Since an open follows links, what is at its name is looked at before and after.
 fn open_there(rt: &HostRuntime, path: &str) -> io::Result<File> {
     if !fs::symlink_metadata(rt, path)?.is_file() {
         return Err(ErrorKind::Unsupported.into());
@@ -64,8 +64,8 @@ pub(crate) fn above_streams(file: File) -> io::Result<File> {
     file.try_clone()
 }
 
-// Locks a file or a folder against all who open it anew. `WouldBlock` comes where another holds a lock, and of nothing
-// else that is asked of a file.
+// Locks a file or a folder against all who open it anew. `WouldBlock` comes where another holds a lock, and from
+// nothing else that is asked of a file.
 fn lock(file: &File) -> io::Result<()> {
     match file.try_lock() {
         Ok(()) => Ok(()),
@@ -100,7 +100,7 @@ fn settle(rt: &HostRuntime, path: &str) -> io::Result<()> {
     settled
 }
 
-// The limit that a line of Linux's table of limits tells, where it is the one on the length of a file.
+// The limit that a line of Linux's table of limits gives, where it is the one on the length of a file.
 fn limit_in(line: &str) -> Option<u64> {
     let told = line.strip_prefix(LIMIT_ON_LENGTH)?;
     match told.split_whitespace().next()?.parse::<u64>() {
@@ -109,7 +109,7 @@ fn limit_in(line: &str) -> Option<u64> {
     }
 }
 
-// How long this process may make a file; where nothing is told, as long as it likes.
+// How long this process may make a file; where no limit is given, as long as it likes.
 fn limit_on_length(rt: &HostRuntime) -> u64 {
     match fs::read_to_string(rt, LIMITS) {
         Ok(table) => table.lines().find_map(limit_in).unwrap_or(u64::MAX),

@@ -18,7 +18,7 @@ impl Model for Record {
 }
 
 impl Record {
-    /// Before the first call.
+    /// The record before the first call.
     pub(crate) fn new() -> Record
         ensures { result.calls ≡ [] }
     {
@@ -27,7 +27,7 @@ impl Record {
         }
     }
 
-    /// One call more: its numbers, and the bytes that it read or was given.
+    /// Notes one call more: its numbers, and the bytes that it read or was given.
     pub(crate) fn note(&mut self, _numbers: &[u64], _bytes: &[u8])
         ensures { self.new.calls ≡ call_of _numbers.now _bytes.now ∷ self.old.calls }
     {}

@@ -16,7 +16,8 @@ pub trait Start: Drop {
     ghost left: { IsLeft bytes deeds bytes };
 }
 
-/// For a program to name. Here it is a file without bytes; what is proved of a program is proved for each start.
+/// The start that a program names. Here it is a file without bytes; what is proved of a program is proved for each
+/// start.
 #[derive(Drop)]
 pub struct Unknown;
 

@@ -10,7 +10,7 @@ const PATH: &str = "pol_file_test/pol.journal";
 
 const ELSEWHERE: &str = "pol_file_test/elsewhere";
 
-// The file's length and its bytes, as a disk that was opened anew tells them.
+// The file's length and its bytes, as a disk that was opened anew shows them.
 fn held(rt: &HostRuntime) -> (Option<u64>, [u8; 8]) {
     let mut disk = FileDisk::new(rt, PATH, FOLDER, Unknown);
     let mut bytes = [0; 8];

@@ -2,12 +2,13 @@
 use Rattle.std.specs.Prelude.{ℕ, List, [], ◌∷◌}
 use Rattle.pol_io.specs.Scripted.{counted}
 
--- the number that the last call answered, 0 before any, and how many calls there were
+-- a clock: the number that the last call answered, 0 before any, and how many calls there were
 pub record Ticking : Type 0 where
   pub last : ℕ
   pub calls : ℕ
 
--- the moments still to come, the number that the last call answered, 0 before any, and how many calls there were
+-- a clock in memory: the moments still to come, the number that the last call answered, 0 before any, and how many
+-- calls there were
 pub record Timed : Type 0 where
   pub moments : List ℕ
   pub last : ℕ

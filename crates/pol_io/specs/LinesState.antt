@@ -7,7 +7,8 @@ use Rattle.pol_io.specs.declared.limits.TheConstants.{LONGEST_LINE, LONGEST_INPU
 use Rattle.pol_io.specs.declared.lines.Line.{Line}
 use Rattle.pol_io.specs.declared.lines.Line.TheVariants.{Text, TooLong, End}
 
--- the bytes that wait, how many were taken, whether the end of input was seen, and whether no call failed
+-- the state of lines: the bytes that wait, how many were taken, whether the end of input was seen, and whether no call
+-- failed
 pub record LinesState : Type 0 where
   pub waiting : List ℕ
   pub taken : ℕ
@@ -22,11 +23,11 @@ given reading = reading.taken - length reading.waiting
 abbrev pub ahead : LinesState → Option (List ℕ) → Option (List ℕ)
 ahead reading left = joined reading.ended reading.waiting left
 
--- whether the next line stands there without the source: a whole line waits, or the end was seen
+-- whether the next line can be given without the source: a whole line waits, or the end was seen
 abbrev pub needs_no_source : LinesState → Bool
 needs_no_source reading = reading.ended || not (has_no_feed reading.waiting)
 
--- the answer about a text, and what is left of the text
+-- the line that is answered is the first one of the text, or its end, and the rest is left
 abbrev pub Answers : Line → Bool → List ℕ → List ℕ → Type 0
 Answers (Text line) ended text rest = IsFirstLine ended line.now text rest
 Answers TooLong ended text rest = (line : List ℕ) × IsFirstLine ended line text rest × (LONGEST_LINE < length line)
@@ -38,7 +39,7 @@ IsInLimit (Text line) = length line.now ≤ LONGEST_LINE
 IsInLimit TooLong = ⊤
 IsInLimit End = ⊤
 
--- each line gives some bytes, and the end is told where it was seen
+-- each line gives some bytes, and the end is answered only where it was seen
 abbrev pub Gives : Line → LinesState → LinesState → Type 0
 Gives (Text line) old new = given old < given new
 Gives TooLong old new = given old < given new

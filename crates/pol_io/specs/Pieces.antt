@@ -27,8 +27,8 @@ is_whole [] = true
 is_whole (x ∷ []) = x == 10
 is_whole (x ∷ (y ∷ ys)) = is_whole (y ∷ ys)
 
--- this is the first line of the text, and the others are those of the rest; it lacks its line feed only where the end
--- of input was seen, and then nothing is left
+-- the line is the first one of the text, and the others are those of the rest; it lacks its line feed only where the
+-- end of input was seen, and then nothing is left
 pub record IsFirstLine (ended : Bool) (line text rest : List ℕ) : Type 0 where
   pub piece : List ℕ
   pub cut : text ≡ piece ++ rest
@@ -50,7 +50,7 @@ pub record Passes (text rest : List ℕ) : Type 0 where
   pub no_feed : IsTrue (has_no_feed part)
   pub cut : text ≡ part ++ rest
 
--- likewise, and one more byte is gone behind that part
+-- the rest is the text without a part at its front that holds no line feed, and without one more byte behind that part
 pub record PassesMore (text rest : List ℕ) : Type 0 where
   pub last : ℕ
   pub passes : Passes text (last ∷ rest)

@@ -40,19 +40,19 @@ IsFound bytes (found.Feed i) = FeedAt bytes i
 IsFound bytes found.Long = IsTrue (has_no_feed bytes) × (LONGEST_LINE < length bytes)
 IsFound bytes found.End = IsTrue (has_no_feed bytes) × (length bytes ≤ LONGEST_LINE)
 
--- what stands at the front of the text, and what is left of it
+-- what was cut from the front of the text, and the rest that is left
 abbrev pub IsCut : Window → Cut → List ℕ → List ℕ → Type 0
 IsCut window (Text from to) text rest = Cuts window.ended (slice_range window.buffer.items from to) text rest
 IsCut window TooLong text rest = CutsLong LONGEST_LINE window.ended text rest
 IsCut window End text rest = (text ≡ []) × (rest ≡ [])
 
--- a line stands in the buffer and is short enough, and at the end of input this was seen
+-- a line that was cut lies in the buffer and is short enough, and the end is cut only where the end of input was seen
 abbrev pub CutFits : Window → Cut → Type 0
 CutFits window (Text from to) = (from ≤ to) × (to ≤ window.buffer.len) × (to - from ≤ LONGEST_LINE)
 CutFits window TooLong = ⊤
 CutFits window End = window.ended ≡ true
 
--- some bytes were given, but for the end
+-- a cut gave some bytes, unless it is the end
 abbrev pub CutGives : Cut → ℕ → ℕ → Type 0
 CutGives (Text from to) old new = old < new
 CutGives TooLong old new = old < new

@@ -1,4 +1,4 @@
-//! What time it is.
+//! A clock, which gives the time.
 ghost use Rattle.std.specs.Prelude.{◌≡◌, ℕ};
 ghost use Rattle.pol_io.specs.Causes.{Rose};
 
@@ -7,7 +7,7 @@ pub trait Clock: Drop {
     /// The number that the last call answered.
     ghost last: { Self → ℕ };
 
-    /// How many calls there were. It rises at each call, until it stands at the greatest u64.
+    /// How many calls there were. It rises at each call, until it is at the greatest u64.
     ghost calls: { Self → ℕ };
 
     /// What time it is, in whole milliseconds.

@@ -27,7 +27,7 @@ impl Model for DripSource {
 }
 
 impl DripSource {
-    /// All these bytes are left. At least one is given at a time.
+    /// A source that has all these bytes left. At least one is given at a time.
     pub fn new(bytes: Vec<u8>, at_most: u32) -> DripSource
         requires { 0 < at_most }
         ensures { result ≡ record { bytes = bytes.items; at_most = at_most } }
@@ -62,7 +62,7 @@ impl Source for DripSource {
     }
 }
 
-/// A sink that never fails, but for want of memory, and takes at most so many bytes at a time.
+/// A sink that never fails, except that it may find no memory, and takes at most so many bytes at a time.
 #[derive(Drop)]
 pub struct DripSink {
     bytes: Vec<u8>,
@@ -78,7 +78,7 @@ impl Model for DripSink {
 }
 
 impl DripSink {
-    /// It holds nothing. At least one byte is taken at a time.
+    /// A sink that holds nothing. At least one byte is taken at a time.
     pub fn new(alloc: Global, at_most: u32) -> DripSink
         requires { 0 < at_most }
         ensures { result ≡ record { bytes = []; at_most = at_most } }
@@ -89,7 +89,7 @@ impl DripSink {
         }
     }
 
-    /// What it holds.
+    /// The bytes that the sink holds.
     pub fn bytes(&self) -> &[u8]
         ensures { result.now ≡ self.now.bytes }
     {

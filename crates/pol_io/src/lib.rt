@@ -1,11 +1,11 @@
-//! Bytes, lines and the time: where a program's input comes from and where its output goes.
+//! Input and output of a program: sources and sinks of bytes, the lines of an input, and clocks.
 //!
-//! A `Source` gives bytes and a `Sink` takes them; each may tell its bytes, and counts its faults. `Lines` cuts what a
-//! source gives into lines, in one buffer, and lends each line. `write_all` hands a whole piece to a sink. A `Clock`
-//! tells the time.
+//! A `Source` gives bytes and a `Sink` takes them; each counts its faults, and contracts may know its bytes. `Lines`
+//! cuts what a source gives into lines, in one buffer, and lends each line. `write_all` hands a whole piece to a sink.
+//! A `Clock` gives the time.
 //!
 //! It knows nothing of what a line says. Its main contract is that of `Lines::next_line`: each answer is the first line
-//! of the bytes that are ahead, and each fault has its cause. What a line is stands in `specs/Pieces.antt`.
+//! of the bytes that are ahead, and each fault has its cause. `specs/Pieces.antt` defines what a line is.
 //!
 //! Tried in `io_examples`.
 #![tactic(auto)]

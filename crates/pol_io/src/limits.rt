@@ -1,4 +1,4 @@
-//! How much is read.
+//! The limits on what is read.
 
 /// The most bytes of a line, without its line feed.
 pub const LONGEST_LINE: usize = 1_048_576;

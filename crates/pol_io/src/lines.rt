@@ -84,7 +84,7 @@ impl Lines {
         !self.failed
     }
 
-    /// Whether the next line stands here, or the end of input was seen: then `next_line` asks no source.
+    /// Whether the next line is here already, or the end of input was seen: then `next_line` asks no source.
     #[tactic(auto, using(crate::proofs::Feeds::feed_found))]
     pub fn has_next(&mut self) -> bool
         ensures next { result ≡ needs_no_source self.old }

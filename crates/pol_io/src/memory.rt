@@ -76,7 +76,7 @@ impl Model for MemorySource {
 }
 
 impl MemorySource {
-    /// All these bytes are left. The first call has the number 1.
+    /// A source that has all these bytes left. The first call has the number 1.
     pub fn new(bytes: Vec<u8>, failing: Vec<u32>) -> MemorySource
         ensures { result ≡ record
             { bytes = bytes.items; failing = failing.items; calls = 0; faults = 0 } }
@@ -131,7 +131,7 @@ impl Model for MemorySink {
 }
 
 impl MemorySink {
-    /// It holds nothing. The first call has the number 1.
+    /// A sink that holds nothing. The first call has the number 1.
     pub fn new(alloc: Global, failing: Vec<u32>) -> MemorySink
         ensures { result ≡ record
             { bytes = []; failing = failing.items; calls = 0; faults = 0 } }
@@ -142,7 +142,7 @@ impl MemorySink {
         }
     }
 
-    /// What it holds.
+    /// The bytes that the sink holds.
     pub fn bytes(&self) -> &[u8]
         ensures { result.now ≡ self.now.bytes }
     {

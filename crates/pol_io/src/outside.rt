@@ -62,8 +62,8 @@ fn flush_again<W: Write>(writer: &mut W) -> io::Result<()>
     Err(io::Error::from(ErrorKind::Interrupted))
 }
 
-/// A reader as a source. Each error of the reader is a fault, but an interruption: then it is read again. It tells of
-/// its bytes what the reader tells, which is nothing for a file or a terminal.
+/// A reader as a source. Each error of the reader is a fault, except an interruption: then the reader is read again.
+/// What is known of its bytes is what is known of the reader's: nothing for a file or a terminal.
 #[derive(Drop)]
 pub struct ReaderSource<R: Read> {
     inner: R,
@@ -77,7 +77,7 @@ impl<R: Read> Model for ReaderSource<R> {
 }
 
 impl<R: Read> ReaderSource<R> {
-    /// The reader as it stands, with no fault so far.
+    /// The reader as it is, with no fault so far.
     pub fn new(inner: R) -> ReaderSource<R>
         ensures { result ≡ record { bytes = R.remaining inner; faults = 0 } }
     {
@@ -101,9 +101,9 @@ impl<R: Read> Source for ReaderSource<R> {
     }
 }
 
-/// A writer as a sink. Each error of the writer is a fault, but an interruption: then it is written again. A piece of
-/// which it takes nothing is a fault too. A flush is the writer's. It tells of its bytes what the writer tells, which
-/// is nothing for a file or a terminal.
+/// A writer as a sink. Each error of the writer is a fault, except an interruption: then the piece is written again. A
+/// piece of which it takes nothing is a fault too. A flush is the writer's. What is known of its bytes is what is known
+/// of the writer's: nothing for a file or a terminal.
 #[derive(Drop)]
 pub struct WriterSink<W: Write> {
     inner: W,
@@ -117,7 +117,7 @@ impl<W: Write> Model for WriterSink<W> {
 }
 
 impl<W: Write> WriterSink<W> {
-    /// The writer as it stands, with no fault so far.
+    /// The writer as it is, with no fault so far.
     pub fn new(inner: W) -> WriterSink<W>
         ensures { result ≡ record { bytes = W.contents inner; faults = 0 } }
     {

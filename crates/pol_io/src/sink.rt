@@ -16,7 +16,7 @@ pub enum SinkFault {
 
 /// Where bytes go, in order.
 pub trait Sink {
-    /// The bytes that the sink holds, where it tells them.
+    /// The bytes that the sink holds, where they are known.
     ghost held: { Self → Option (List ℕ) };
 
     /// How often the sink has failed; it never falls.

@@ -11,7 +11,7 @@ pub struct Failed;
 
 /// Where bytes come from, in order.
 pub trait Source {
-    /// The bytes still to come, where the source tells them.
+    /// The bytes still to come, where they are known.
     ghost left: { Self → Option (List ℕ) };
 
     /// How often the source has failed; it never falls.

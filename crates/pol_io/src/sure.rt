@@ -36,7 +36,7 @@ impl Model for SureSource {
 }
 
 impl SureSource {
-    /// All these bytes are left.
+    /// A source that has all these bytes left.
     pub fn new(bytes: Vec<u8>) -> SureSource
         ensures { result ≡ bytes.items }
     {
@@ -63,7 +63,7 @@ impl Source for SureSource {
     }
 }
 
-/// A sink that never fails, but for want of memory. Contracts see it as the bytes that it holds.
+/// A sink that never fails, except that it may find no memory. Contracts see it as the bytes that it holds.
 #[derive(Drop)]
 pub struct SureSink {
     bytes: Vec<u8>,
@@ -76,7 +76,7 @@ impl Model for SureSink {
 }
 
 impl SureSink {
-    /// It holds nothing.
+    /// A sink that holds nothing.
     pub fn new(alloc: Global) -> SureSink
         ensures { result ≡ [] }
     {
@@ -85,7 +85,7 @@ impl SureSink {
         }
     }
 
-    /// What it holds.
+    /// The bytes that the sink holds.
     pub fn bytes(&self) -> &[u8]
         ensures { result.now ≡ self.now }
     {

@@ -1,4 +1,4 @@
-//! A clock of the runtime as a clock: the edge to the outside.
+//! The runtime's clock as a `Clock`: the edge to the outside.
 ghost use Rattle.std.specs.Prelude.{◌≡◌};
 ghost use Rattle.pol_io.specs.Causes.{Rose};
 ghost use Rattle.pol_io.specs.Clocks.{Ticking};
@@ -7,8 +7,8 @@ ghost use Rattle.pol_io.specs.Scripted.{counted};
 use super::clock::Clock;
 use std::marker::Model;
 
-/// The runtime's clock, in whole milliseconds since 1970. Where that clock fails, or tells more than 64 bits hold, it
-/// answers its last number again, 0 before any. What the runtime's clock tells isn't known.
+/// The runtime's clock, in whole milliseconds since 1970. Where that clock fails, or gives more than 64 bits hold, it
+/// answers its last number again, 0 before any. Nothing is known of what the runtime's clock gives.
 #[derive(Drop)]
 pub struct SystemClock<T: std::rt::Clock + Drop> {
     rt: T,
@@ -35,7 +35,7 @@ impl<T: std::rt::Clock + Drop> SystemClock<T> {
     }
 }
 
-// The milliseconds since 1970, where the clock tells them and 64 bits hold them.
+// The milliseconds since 1970, where the clock gives them and 64 bits hold them.
 fn millis_of<T: std::rt::Clock>(rt: &T) -> Option<u64> {
     let time = rt.since_1970().ok()?;
     u64::try_from(time.as_millis()).ok()

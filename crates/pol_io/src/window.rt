@@ -8,9 +8,9 @@ use std::alloc::{AllocError, Global};
 // The length that a buffer begins with; `fill` doubles it where the buffer is full.
 const FIRST_LENGTH: usize = 65_536;
 
-/// A buffer with memory for a longest line and its line feed, which takes its length as bytes come: what no byte needed
-/// is never written. What waits stands from `start` to `end`; `taken` counts all bytes that came from the source, and
-/// `ended` tells that the end of input was seen and all was given.
+/// A buffer with memory for a longest line and its line feed, whose length grows as bytes come: memory that no byte
+/// needed is never written. The bytes that wait lie from `start` to `end`; `taken` counts all bytes that came from the
+/// source, and `ended` says that the end of input was seen and all was given.
 #[derive(Drop)]
 pub struct Window {
     pub buffer: Vec<u8>,

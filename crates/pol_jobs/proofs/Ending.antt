@@ -1,4 +1,4 @@
--- How a job ended, by how its lines ended; and what that comes to where nothing fails.
+-- How a job ended, by how its lines ended; and what that means where nothing fails.
 use Rattle.std.proofs.Common.{ℕ, ◌≡◌, ◌≤◌, List, refl, arith, length}
 use Rattle.std.specs.Prelude.{Option, Some, None, Result, Ok, Err, IfErr, OnOk}
 use Rattle.pol_io.specs.Causes.{HasCauseOf}

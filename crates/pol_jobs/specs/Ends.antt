@@ -11,7 +11,7 @@ use Rattle.pol_jobs.specs.Written.{WritesSome, WritesPart}
 use Rattle.pol_jobs.specs.declared.fault.JobFault.{JobFault}
 use Rattle.pol_jobs.specs.declared.fault.JobFault.TheVariants.{Read, Write, Memory, TooMuch, Failed, Refused}
 
--- a source or a sink at some time: its bytes, where it tells them, and how often it has failed
+-- a source or a sink at some time: its bytes, where they are known, and how often it has failed
 abbrev pub edge : Option (List ℕ) → ℕ → Edge
 edge bytes faults = record { bytes = bytes; faults = faults }
 
@@ -47,7 +47,8 @@ pub record WritesTaken {Reason : Type 0} (output : Output Reason) (held held' : 
   pub accepted : AcceptsLines output takes.whole
   pub written : Appends held held' (output.replies takes.whole)
 
--- the same, where 268,435,456 bytes were taken, as many as an input may have, and another one came
+-- what was written is exactly what is replied to the lines whose line feed was taken; 268,435,456 bytes were taken, as
+-- many as an input may have, and another one came
 pub record WritesTakenAndMore {Reason : Type 0} (output : Output Reason) (held held' : Option (List ℕ))
     (bytes left : List ℕ) : Type 0 where
   pub last : ℕ
@@ -74,7 +75,7 @@ pub record WritesLess {Reason : Type 0} (output : Output Reason) (held held' : O
   pub may : output.Closing bytes closing
   pub part : WritesPart held held' (output.replies bytes ++ closing)
 
--- what is left where a job stopped: a part of the replies, or all of them and a part of what closes the output
+-- what was written where a job stopped: a part of the replies, or all of them and a part of what closes the output
 pub data LeavesPart {Reason : Type 0} (output : Output Reason) (held held' : Option (List ℕ)) (bytes left : List ℕ)
     : Type 0 where
   stopped_within : WritesTakenPart output held held' bytes left → LeavesPart output held held' bytes left
@@ -103,7 +104,7 @@ pub record RefusesInput {Reason : Type 0} (output : Output Reason) (reason : Rea
   pub refuses : output.RefusesEnd bytes reason
   pub written : Appends held held' (output.replies bytes)
 
--- either
+-- the job refused its input for this reason, with a line or at the end
 pub data IsRefused {Reason : Type 0} (output : Output Reason) (reason : Reason) (held held' : Option (List ℕ))
     (bytes left : List ℕ) : Type 0 where
   refused_line : RefusesLine output reason held held' bytes left → IsRefused output reason held held' bytes left
@@ -115,11 +116,11 @@ pub data IsRefused {Reason : Type 0} (output : Output Reason) (reason : Reason) 
 abbrev pub IsTooMuch : Option (List ℕ) → Type 0
 IsTooMuch left = IfSome left (λ bytes. LONGEST_INPUT < length bytes)
 
--- nothing failed there
+-- the source or sink didn't fail
 abbrev pub IsWell : Edge → Edge → Type 0
 IsWell before now = now.faults ≡ before.faults
 
--- something did
+-- the source or sink failed
 abbrev pub DidFail : Edge → Edge → Type 0
 DidFail before now = Rose before.faults now.faults
 
@@ -151,7 +152,7 @@ Ends output source source' sink sink' (Err (Refused reason)) =
     Between (IsRefused output reason sink.bytes sink'.bytes) source.bytes source'.bytes
     × IsWell source source' × IsWell sink sink'
 
--- ---- what the rows come to where nothing fails
+-- ---- what the rows mean where nothing fails
 
 -- the result is the one that is due: done, where nothing of the input is refused, a refusal where something is; or
 -- there was no memory, or what the job works with failed

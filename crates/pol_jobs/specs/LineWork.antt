@@ -25,23 +25,23 @@ pub record LineWork (State Reason : Type 0) : Type 1 where
   pub Refuses : State → Line → Reason → Type 0
   pub RefusesEnd : State → Reason → Type 0
 
--- its replies to the lines of these pieces, one after another
+-- a job's replies to the lines of these pieces, one after another
 abbrev pub replies : {State Reason : Type 0} → LineWork State Reason → State → List (List ℕ) → List ℕ
 replies work state [] = []
 replies work state (piece ∷ pieces) =
     work.reply state (line_met piece) ++ replies work (work.after state (line_met piece)) pieces
 
--- the same of lines as it meets them
+-- a job's replies to these lines, one after another
 abbrev pub replies_to : {State Reason : Type 0} → LineWork State Reason → State → List Line → List ℕ
 replies_to work state [] = []
 replies_to work state (line ∷ lines) = work.reply state line ++ replies_to work (work.after state line) lines
 
--- what it knows after these
+-- what a job knows after these lines
 abbrev pub after_each : {State Reason : Type 0} → LineWork State Reason → State → List Line → State
 after_each work state [] = state
 after_each work state (line ∷ lines) = after_each work (work.after state line) lines
 
--- what it knows after the lines of these pieces
+-- what a job knows after the lines of these pieces
 abbrev pub after_all : {State Reason : Type 0} → LineWork State Reason → State → List (List ℕ) → State
 after_all work state [] = state
 after_all work state (piece ∷ pieces) = after_all work (work.after state (line_met piece)) pieces
@@ -50,11 +50,11 @@ after_all work state (piece ∷ pieces) = after_all work (work.after state (line
 abbrev pub KnowsAfter : {State Reason : Type 0} → LineWork State Reason → State → State → List ℕ → List ℕ → Type 0
 KnowsAfter work before now bytes left = now ≡ after_all work before (pieces bytes)
 
--- it doesn't refuse its input with this line
+-- the job doesn't refuse its input with this line
 abbrev pub Accepts : {State Reason : Type 0} → LineWork State Reason → State → Line → Type 0
 Accepts work state line = (reason : _) → ¬ work.Refuses state line reason
 
--- nor at the end
+-- the job doesn't refuse its input at the end
 abbrev pub AcceptsEnd : {State Reason : Type 0} → LineWork State Reason → State → Type 0
 AcceptsEnd work state = (reason : _) → ¬ work.RefusesEnd state reason
 
@@ -76,7 +76,7 @@ AcceptsBehind output done (piece ∷ pieces) =
 abbrev pub AcceptsLines : {Reason : Type 0} → Output Reason → List ℕ → Type 0
 AcceptsLines output bytes = AcceptsBehind output [] (pieces bytes)
 
--- nor the input at its end
+-- neither a line of these bytes nor the input at its end is refused
 abbrev pub AcceptsAll : {Reason : Type 0} → Output Reason → List ℕ → Type 0
 AcceptsAll output bytes = AcceptsLines output bytes × ((reason : _) → ¬ output.RefusesEnd bytes reason)
 
@@ -92,7 +92,7 @@ output_by work state =
 
 -- ---- jobs that refuse nothing and close with one text
 
--- the work of such a job
+-- the work of a job that refuses nothing and closes with one text
 abbrev pub work_of : {State : Type 0} → (State → Line → List ℕ) → (State → Line → State) → (State → List ℕ)
     → LineWork State Infallible
 work_of reply after closing =
@@ -104,7 +104,8 @@ work_of reply after closing =
       RefusesEnd = λ state reason. ⊥;
     }
 
--- the output of such a job, by what it replies to the lines of some bytes and what then closes it
+-- the output of a job that refuses nothing and closes with one text, by what it replies to the lines of some bytes and
+-- the text that then closes it
 abbrev pub texts_of : (List ℕ → List ℕ) → (List ℕ → List ℕ) → Output Infallible
 texts_of replies closing =
     record {

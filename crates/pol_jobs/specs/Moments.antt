@@ -20,11 +20,11 @@ pub record Moment (State : Type 0) : Type 0 where
   pub lines : LinesState
   pub left : Option (List ℕ)
 
--- these three together
+-- the moment with this state, these lines and these bytes left
 abbrev pub moment : {State : Type 0} → State → LinesState → Option (List ℕ) → Moment State
 moment state lines left = record { state = state; lines = lines; left = left }
 
--- nothing was read yet
+-- lines of which nothing was read yet
 pub record IsFresh (lines : LinesState) : Type 0 where
   pub waiting : lines.waiting ≡ []
   pub taken : lines.taken ≡ 0
@@ -54,15 +54,15 @@ pub record Served {State Reason : Type 0} (work : LineWork State Reason) (first 
   pub held_back : buffer ≡ replies work (after_all work first.state settled) waiting
   pub accepted : AcceptsLines (output_by work first.state) done
 
--- the lines are those
+-- the lines before the rest were replied to since the first moment: the settled ones and those that wait are these
 pub record ServedLines {State Reason : Type 0} (work : LineWork State Reason) (settled waiting : List Line)
     (first now : Moment State) (held held' : Option (List ℕ)) (buffer bytes rest : List ℕ) : Type 0 where
   pub served : Served work first now held held' buffer bytes rest
   pub settled_are : settled ≡ map line_met served.settled
   pub waiting_are : waiting ≡ map line_met served.waiting
 
--- the lines before the rest were replied to since the first moment, and this is what else the job did meanwhile; which
--- lines they are is known where the source tells its bytes
+-- the lines before the rest were replied to since the first moment, and `Did` says what else the job did meanwhile;
+-- which lines they are is known where the source's bytes are known
 pub record HasServed {State Reason : Type 0} (work : LineWork State Reason)
     (Did : List Line → List Line → Bool → Type 0) (first now : Moment State) (held held' : Option (List ℕ))
     (buffer : List ℕ) : Type 0 where
@@ -72,14 +72,14 @@ pub record HasServed {State Reason : Type 0} (work : LineWork State Reason)
   pub served : Between (ServedLines work settled waiting first now held held' buffer) first.left
       (ahead now.lines now.left)
 
--- the lines before the rest were replied to since the first moment, where the source tells its bytes
+-- the lines before the rest were replied to since the first moment, where the source's bytes are known
 abbrev pub IsServed : {State Reason : Type 0} → LineWork State Reason → Moment State → Moment State → Option (List ℕ)
     → Option (List ℕ) → List ℕ → Type 0
 IsServed work first now held held' buffer =
     Between (Served work first now held held' buffer) first.left (ahead now.lines now.left)
 
--- Since the first state lines were replied to, whatever the source tells of them: the replies to those that are settled
--- were written, and a buffer holds the replies to those that wait behind them.
+-- Since the first state lines were replied to, whether or not the source's bytes are known: the replies to those that
+-- are settled were written, and a buffer holds the replies to those that wait behind them.
 pub record HasReplied {State Reason : Type 0} (work : LineWork State Reason) (start now : State)
     (held held' : Option (List ℕ)) (buffer : List ℕ) : Type 0 where
   pub settled : List Line
@@ -104,7 +104,7 @@ pub record Met {State Reason Failure : Type 0} (work : LineWork State Reason) (b
   pub accepted : OnOk made (Accepts work before line)
   pub refused : IfErr made (RefusedFor (work.Refuses before line))
 
--- the next line was met, and it is this one; or the end
+-- the next line was met, and it is this one; or the input is at its end
 abbrev pub Replies : {State Reason Failure : Type 0} → LineWork State Reason → State → State → Bool
     → Option (Result (Unit {0}) (Stop Reason Failure)) → List ℕ → Line → List ℕ → List ℕ → Type 0
 Replies work before now ended None reply next text rest = (text ≡ []) × (rest ≡ []) × (now ≡ before)
@@ -117,7 +117,7 @@ abbrev pub DidNext : {Job Reason Failure : Type 0} → Deeds Job → Job → Job
 DidNext Did job job' None next = job' ≡ job
 DidNext Did job job' (Some made) next = Meets Did job job' next (is_ok made)
 
--- the next line was met, whatever the source tells; nothing at the end
+-- the next line was met, whether or not the source's bytes are known; at the end nothing changed
 abbrev pub MetNext : {State Reason Failure : Type 0} → LineWork State Reason → State → State
     → Option (Result (Unit {0}) (Stop Reason Failure)) → List ℕ → Line → Type 0
 MetNext work before now None reply next = now ≡ before

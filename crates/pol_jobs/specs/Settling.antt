@@ -10,7 +10,7 @@ use Rattle.pol_jobs.specs.Written.{WritesSome}
 abbrev pub Deeds : Type 0 → Type 1
 Deeds Job = Job → Job → List Line → List Line → Bool → Type 0
 
--- the next line was met
+-- the next line was met, and waits behind the others
 abbrev pub Meets : {Job : Type 0} → Deeds Job → Job → Job → Line → Bool → Type 0
 Meets {Job} Did before now line whole =
     (first : Job) (settled waiting : List Line) → Did first before settled waiting true
@@ -23,7 +23,7 @@ pub record Settles {Job : Type 0} (Did : Deeds Job) (each : Bool) (before now : 
   pub stopped : each ≡ false → (first : Job) (settled waiting : List Line) (last : Line)
       → Did first before settled (waiting ++ last ∷ []) false → Did first now (settled ++ waiting) (last ∷ []) false
 
--- they weren't, and the job stopped there
+-- the lines that waited were not settled, and the job stopped there
 pub record SettlesNone {Job : Type 0} (Did : Deeds Job) (each : Bool) (before now : Job) : Type 0 where
   pub all : (first : Job) (settled waiting : List Line) → Did first before settled waiting true
       → Did first now settled waiting false
@@ -36,14 +36,15 @@ pub record Puts {Job : Type 0} (Did : Deeds Job) (each : Bool) (before now : Job
   pub settles : Settles Did each before now
   pub written : Appends held held' replies
 
--- or a front part of these was; or the lines weren't settled, and none was
+-- the lines that waited were settled, and a front part of the replies to them was written; or they weren't settled, and
+-- nothing was written
 abbrev pub PutsPart : {Job : Type 0} → Deeds Job → Bool → Job → Job → Option (List ℕ) → Option (List ℕ) → List ℕ
     → Type 0
 PutsPart Did each before now held held' replies =
     (Settles Did each before now × WritesSome held held' replies)
     ⊎ (SettlesNone Did each before now × (held' ≡ held))
 
--- the replies wait on, since the next line stands there too and the job doesn't settle each
+-- the replies wait on, since the next line is there too and the job doesn't settle each
 pub record PutsOff {Job : Type 0} (each : Bool) (lines : LinesState) (before now : Job) (held held' : Option (List ℕ))
     (replies replies' : List ℕ) : Type 0 where
   pub grouped : each ≡ false

@@ -1,4 +1,4 @@
-//! Jobs over lines: something is replied to each line of an input, and then the output is closed.
+//! Jobs over lines: a job replies to each line of its input, and then closes its output.
 //!
 //! It knows nothing of plants, nor of statuses. Its main contract is that of `work`: how such a job ends
 //! (`specs/Ends.antt`), one row for each result.

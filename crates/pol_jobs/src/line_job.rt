@@ -23,26 +23,27 @@ pub enum InputLine<'a> {
 /// A job that does something with each line of its input, and then closes its output. It may refuse its input, with a
 /// line or at its end; one that never does has `Infallible` for its reasons.
 ///
-/// The replies to several lines that stand there at once are handed on together. Of a job that doesn't settle each line
-/// they are written together too, once what was done for these lines is settled.
+/// The replies to several lines that are there at once are handed on together. A job that doesn't settle each line
+/// writes them together too, once what was done for these lines is settled.
 pub trait LineJob {
     /// Why a job of this kind refuses its input.
     type Refusal: Drop;
 
-    /// What may fail a job of this kind beside memory, its source and its sink: a disk; `Infallible` where nothing may.
+    /// What else can fail in a job of this kind than memory, its source and its sink: a disk; `Infallible` where
+    /// nothing can.
     type Failure: Drop;
 
-    /// Whether each line is settled, and its reply written, before the next one is met, also where more lines stand
-    /// there already.
+    /// Whether each line is settled, and its reply written, before the next one is met, also where more lines are there
+    /// already.
     const SETTLES_EACH: bool;
 
-    /// The same, where contracts speak of it.
+    /// `SETTLES_EACH`, where contracts speak of it.
     ghost SETTLES_EACH: { Bool };
 
     /// Whether the reply to each line is handed on too before the next one is met, so that nobody waits for it.
     const HANDS_ON_EACH: bool;
 
-    /// The same, of which no contract speaks.
+    /// `HANDS_ON_EACH`, of which no contract speaks.
     ghost HANDS_ON_EACH: { Bool };
 
     /// What a job of this kind knows between two lines.
@@ -51,14 +52,14 @@ pub trait LineJob {
     /// What this job knows.
     ghost state: { Self → State };
 
-    /// What it does with each line, and at the end.
+    /// What the job does with each line, and at the end.
     ghost work: { LineWork State Self.Refusal };
 
     /// What else such a job did, from its first state to this one: the lines that are settled, those that wait behind
     /// them, and whether it replied to the last of these too, or stopped there.
     ghost Did: { Self → Self → List Line → List Line → Bool → Type 0 };
 
-    /// What is so of a job that failed.
+    /// What holds of a job that failed.
     ghost HasFailed: { Self → Type 0 };
 
     /// Puts what it replies to a line behind what a buffer holds: an output line, or nothing.
@@ -115,6 +116,6 @@ pub trait LineJob {
         ensures did { (first : Self) (settled : List Line) → Did first self.old settled [] true
             → Did first self.new settled [] true };
 
-    /// Before it meets a line, it did nothing.
+    /// Before a job meets a line, it did nothing.
     ghost did_nothing: { (job : Self) → Did job job [] [] true };
 }

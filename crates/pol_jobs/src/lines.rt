@@ -18,7 +18,7 @@ use crate::stop::Stop;
 use pol_io::{IoFault, Line, Lines, Sink, Source};
 use std::alloc::Global;
 
-// The replies that wait are written once they have so many bytes, also where more lines stand there: so memory stays
+// The replies that wait are written once they have so many bytes, also where more lines are there: so memory stays
 // flat, and no reader waits long.
 const LONGEST_GROUP: usize = 65_536;
 
@@ -74,9 +74,9 @@ fn put_replies<K: Sink, J: LineJob>(
     Ok(())
 }
 
-// Puts the replies out where it is time: the next line doesn't stand there yet, or the job settles each line, or too
-// much waits. They are handed on where the next line doesn't stand there, so that the source is only asked when
-// everybody has their replies, and where the job hands on each.
+// Puts the replies out where it is time: the next line isn't there yet, or the job settles each line, or too much
+// waits. They are handed on where the next line isn't there, so that the source is only asked when everybody has their
+// replies, and where the job hands on each.
 fn put_due<K: Sink, J: LineJob>(
     lines: &mut Lines,
     job: &mut J,
@@ -203,8 +203,8 @@ fn reply_and_close<S: Source, K: Sink, J: LineJob>(
 /// Does the job: replies to each line of the source, and then closes the output. How it ends is one row for each
 /// result; and where nothing fails, an input that fits is done or refused as it should be, unless there was no memory.
 /// What else the job did, it did and settled with all lines of the input, or with the first ones; of these some may
-/// wait unsettled behind the others, and no more was written than the replies to the settled ones. `Failed` comes
-/// only of a job that failed, and what is so of such a job is so of this one then.
+/// wait unsettled behind the others, and no more was written than the replies to the settled ones. `Failed` comes only
+/// from a job that failed, and what holds of such a job then holds of this one.
 #[tactic(auto, using(crate::proofs::Ending::work_ends))]
 pub fn work<S: Source, K: Sink, J: LineJob>(
     alloc: Global,

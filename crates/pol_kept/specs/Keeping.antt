@@ -47,7 +47,7 @@ module _ {State Item Answer : Type 0} (work : ChronicleWork State Item Answer) w
     pub texts_are : AreTextsOf work kept group texts
     pub staged : IsStaged texts behind
 
-  -- where the disk tells its bytes
+  -- where the disk's bytes are known, the disk keeps all items but the group of those that wait
   abbrev pub Keeps : Option (List ℕ) → (List ℕ → Type 0) → ℕ → List ℕ → List Item → ℕ → Type 0
   Keeps seen images end behind items waiting = IfSome seen (λ all. KeepsGroup seen images end behind items waiting)
 
@@ -56,7 +56,7 @@ module _ {State Item Answer : Type 0} (work : ChronicleWork State Item Answer) w
     abbrev pub items_of : KeptState C D → List Item
     items_of store = work.items (state store.chronicle)
 
-    -- its parts
+    -- the items of a store are those that are kept, and behind them the group of those that wait
     abbrev pub HasParts : KeptState C D → List Item → List Item → Type 0
     HasParts store kept group = AreParts (items_of store) store.waiting kept group
 

@@ -1,4 +1,4 @@
--- Which item a text is that of, and what stands where a record should.
+-- Which item a text is that of, and what is found where a record should be.
 use Rattle.std.specs.Prelude.{◌≡◌, ◌<◌, ◌^◌, ℕ, List, ◌∷◌, length, Option, Some, None}
 use Rattle.pol_texts.specs.Stands.{BeginsWith}
 use Rattle.pol_texts.specs.Settled.{behind_gate}
@@ -25,13 +25,13 @@ module _ {State Item Answer : Type 0} (work : ChronicleWork State Item Answer) {
     pub begins : BeginsWith text bytes behind
     pub names : work.IsTextOf before item text
 
-  -- a closed gate, a record, or neither; behind as many records as can be there is none
+  -- what comes next: a closed gate, a record, or neither; behind as many records as can be there is no further one
   abbrev pub IsNext : List ℕ → Next T → Type 0
   IsNext bytes Closed = (behind : List ℕ) × (bytes ≡ 0 ∷ behind)
   IsNext bytes (Record item text) = IsRecord bytes (plain item) text.now × (length before < work.most)
   IsNext bytes Broken = IsBroken work before bytes
 
--- what is asked of an item holds of a record's
+-- what is asked of an item holds of the item of a record that was found
 abbrev pub SoundNext : {T Item : Type 0} → (Item → Type 0) → (T → Item) → Next T → Type 0
 SoundNext IsSound plain (Record item text) = IsSound (plain item)
 SoundNext IsSound plain _ = Unit {0}

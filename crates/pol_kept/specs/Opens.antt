@@ -1,4 +1,4 @@
--- What opening finds.
+-- What opening a disk finds.
 use Rattle.std.specs.Prelude.{◌≡◌, ◌⊎◌, ◌≤◌, ◌<◌, ℕ, List, [], length, Option, IfSome}
 use Rattle.pol_disk.specs.Disks.{StillTells}
 use Rattle.pol_texts.specs.Stands.{Begins}
@@ -17,28 +17,28 @@ module _ {State Item Answer : Type 0} (work : ChronicleWork State Item Answer) w
     pub ends : end ≡ length begins.records
     pub few : length items ≤ work.most
 
-  -- where it is no store, its first record that isn't one stands at this place
+  -- where the image is no store, the first record that isn't one is at this place
   abbrev pub Breaks : List ℕ → OpenFault → Type 0
   Breaks image Memory = Unit {0}
   Breaks image Disk = Unit {0}
   Breaks image (NotAStore place) = BreaksAt work place image
 
-  -- the disk is no store: it reads as more than one byte, no list of items, at most so many as are kept, stands for
-  -- these bytes, and the first record that isn't one stands at this place
+  -- the image is no store: it has more than one byte, it stands for no list of items, of at most so many as are kept,
+  -- and the first record that isn't one is at this place
   pub record IsNoStore (image : List ℕ) (place : ℕ) : Type 0 where
     pub long : 1 < length image
     pub none : StandsForNone work image
     pub breaks : BreaksAt work place image
 
-  -- why an image isn't read: there was no memory, or its first record that isn't one stands at this place; no disk has to
-  -- do with it
+  -- why an image isn't read: there was no memory, or its first record that isn't one is at this place; no disk is
+  -- involved
   abbrev pub IsUnread : List ℕ → OpenFault → Type 0
   IsUnread image Memory = Unit {0}
   IsUnread image Disk = ⊥
   IsUnread image (NotAStore place) = IsNoStore image place
 
-  -- what a fault says, where the disk tells its bytes still: of NotAStore, that no call of the disk failed; of Memory,
-  -- that reads give what they gave
+  -- what a fault says: NotAStore, that no call of the disk failed; both it and Memory, that reads give what they gave,
+  -- where the disk's bytes are still known
   abbrev pub Tells : OpenFault → Option (List ℕ) → Option (List ℕ) → ℕ → ℕ → Type 0
   Tells Memory seen seen' faults faults' = StillTells seen seen'
   Tells Disk seen seen' faults faults' = Unit {0}

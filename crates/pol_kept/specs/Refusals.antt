@@ -18,7 +18,7 @@ module _ {C D : Type 0} (faults : D → ℕ) where
   Fails old new of_group.Closed = (old.closed ≡ true) × (new ≡ old)
 
   -- Memory changes nothing: the chronicle is the same, so many of its items wait, and the disk is as before; Disk comes
-  -- where the disk failed; Closed comes exactly of a closed store
+  -- where the disk failed; Closed comes exactly from a closed store
   abbrev pub Refuses : {T : Type 0} → (C → C → Type 0) → KeptState C D → KeptState C D → T → KeptRefusal T → Type 0
   Refuses IsSame old new item (of_item.Memory back) =
       (back ≡ item) × (old.closed ≡ false) × (new.closed ≡ false) × IsSame old.chronicle new.chronicle

@@ -22,7 +22,7 @@ module _ {State Item Answer : Type 0} (work : ChronicleWork State Item Answer) w
   abbrev pub StandsFor : List Item → List ℕ → Type 0
   StandsFor items image = StandsBehind [] items image
 
-  -- the text is that of the first of these items, and what stands behind it stands for the others
+  -- the text is that of the first of these items, and the image behind it stands for the others
   abbrev pub HasFirst : List Item → List ℕ → List ℕ → List Item → Type 0
   HasFirst before text behind [] = ⊥
   HasFirst before text behind (item ∷ items) =
@@ -48,13 +48,13 @@ module _ {State Item Answer : Type 0} (work : ChronicleWork State Item Answer) w
     pub are_records : AreRecords records texts
     pub place_is : place ≡ length records
 
-  -- the image begins with records of items, and what stands behind them, at this place, is neither a closed gate nor a
+  -- the image begins with records of items, and what comes behind them, at this place, is neither a closed gate nor a
   -- record
   pub record BreaksAt (place : ℕ) (image : List ℕ) : Type 0 where
     pub items : List Item
     pub begins : BeginsWithItems place image items
     pub broken : IsBroken items begins.behind
 
-  -- no list of items, at most so many as are kept, stands for it
+  -- the image stands for no list of items, of at most so many as are kept
   abbrev pub StandsForNone : List ℕ → Type 0
   StandsForNone image = (items : List Item) → length items ≤ work.most → StandsFor items image → ⊥

@@ -12,8 +12,8 @@ pub record ChronicleWork (State Item Answer : Type 0) : Type 1 where
   pub IsTextOf : List Item → Item → List ℕ → Type 0
   pub most : ℕ
 
--- An item that is kept is the last one then, and one that isn't changes nothing; one whose text stands behind the
--- others is kept while there is room; and behind the same items a text is that of one item.
+-- An item that is kept is the last one then, and one that isn't changes nothing; one that has a text behind the others
+-- is kept while there is room; and behind the same items a text is that of one item.
 pub record IsLawful {State Item Answer : Type 0} (work : ChronicleWork State Item Answer) : Type 0 where
   pub grows : (state : State) (item : Item) → work.keeps (work.answer_of state item) ≡ true →
       work.items (work.after state item) ≡ work.items state ++ item ∷ []
@@ -24,7 +24,7 @@ pub record IsLawful {State Item Answer : Type 0} (work : ChronicleWork State Ite
   pub one_item : (before : List Item) (one other : Item) (text : List ℕ) → work.IsTextOf before one text →
       work.IsTextOf before other text → one ≡ other
 
--- where it is kept, the text is that of an item which happens now
+-- where an item that happens now is kept, the text is that of the item
 abbrev pub IsTextIfKept : {State Item Answer : Type 0} → ChronicleWork State Item Answer → State → Item → List ℕ →
     Type 0
 IsTextIfKept work state item text =

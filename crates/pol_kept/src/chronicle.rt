@@ -1,4 +1,4 @@
-//! What items happen in, one after another, and as which texts they are kept.
+//! A chronicle: what items happen in, one after another, and as which texts they are kept.
 ghost use Rattle.std.specs.Prelude.{◌≡◌, ◌≤◌, ℕ, List, [], IfOk, IfErr, OnOk, length};
 ghost use Rattle.std.specs.Bool.{Decides};
 ghost use Rattle.pol_kept.specs.Names.{Names, SoundOption};
@@ -6,19 +6,19 @@ ghost use Rattle.pol_kept.specs.Work.{ChronicleWork, IsLawful, IsTextIfKept};
 
 use std::alloc::{AllocError, Global};
 
-/// What items happen in, one after another: it answers each, and each that it keeps has a text by which it is known
-/// again. A text may depend on the items before its own.
+/// A chronicle, in which items happen one after another: it answers each, and each that it keeps has a text by which it
+/// is known again. A text may depend on the items before its own.
 pub trait Chronicle: Drop {
-    /// What happens in it.
+    /// What happens in a chronicle.
     type Item: Drop;
 
-    /// What it answers to that.
+    /// What a chronicle answers to an item.
     type Answer: Drop;
 
-    /// What it knows between two items.
+    /// What a chronicle knows between two items.
     ghost State: { Type 0 };
 
-    /// What this one knows.
+    /// What this chronicle knows.
     ghost state: { Self → State };
 
     /// An item, as contracts see it.
@@ -27,16 +27,16 @@ pub trait Chronicle: Drop {
     /// What contracts see of an item.
     ghost plain: { Self.Item → Plain };
 
-    /// What it answers to each item, and as which texts its items are kept.
+    /// What a chronicle answers to each item, and as which texts its items are kept.
     ghost work: { ChronicleWork State Plain Self.Answer };
 
-    /// What is so of one before and after a call in which nothing happened; it may have made room.
+    /// What holds of a chronicle before and after a call in which nothing happened; it may have made room.
     ghost IsSame: { Self → Self → Type 0 };
 
     /// What is asked of an item before it happens.
     ghost IsSound: { Plain → Type 0 };
 
-    /// One in which nothing has happened yet.
+    /// A chronicle in which nothing has happened yet.
     fn new(alloc: Global) -> Self
         ensures { work.items (state result) ≡ [] };
 
@@ -64,7 +64,7 @@ pub trait Chronicle: Drop {
     ///
     /// # Errors
     ///
-    /// AllocError where memory is wanting; then nothing happened, and the item comes back.
+    /// AllocError where there is no memory; then nothing happened, and the item comes back.
     fn apply(
         &mut self,
         item: Self::Item,
@@ -80,10 +80,10 @@ pub trait Chronicle: Drop {
     fn is_kept(answer: &Self::Answer) -> bool
         ensures { result ≡ work.keeps answer.now };
 
-    /// How its items grow, and that a text is that of one item.
+    /// How the items of a chronicle grow, and that a text is that of one item.
     ghost lawful: { IsLawful work };
 
-    /// Where nothing happened, it knows what it knew.
+    /// Where nothing happened, a chronicle knows what it knew.
     ghost same: { (old new : Self) → IsSame old new → state new ≡ state old };
 
     /// Between two calls nothing happens.

@@ -6,8 +6,8 @@ use crate::chronicle::Chronicle;
 use crate::records::GATE_AND_LENGTH;
 use pol_texts::{Found, find};
 
-/// The text of the first item that an image stands for, and what stands behind its record: an image that stands for
-/// the others. None where the image stands for no item.
+/// The text of the first item that an image stands for, and what comes behind its record: an image that stands for the
+/// others. None where the image stands for no item.
 pub fn first_text<C: Chronicle>(image: &[u8]) -> Option<(&[u8], &[u8])>
     ensures first { IfSome result (λ cut. (before items : List C.Plain) → StandsBehind C.work before items image.now
         → HasFirst C.work before cut.0.now cut.1.now items) }

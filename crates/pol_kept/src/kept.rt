@@ -86,9 +86,9 @@ fn has_place(end: u64, group: &[u8], behind: &[u8]) -> bool
 
 impl<D: Disk, C: Chronicle> Kept<D, C> {
     /// Opens a disk, whatever a crash, a kill or a failed run left on it. At Ok each crash from now on leaves the items
-    /// that the disk reads as. A disk of at most one byte becomes a store without items. What is said of the bytes that
-    /// the disk told before holds where it tells its bytes still: so no answer was other than these. Beside the store
-    /// comes the image that was read, or an empty one: it stands for the items of the store.
+    /// that the disk reads as. A disk of at most one byte becomes a store without items. What is said of the disk's
+    /// bytes before the call holds where its bytes are still known after it: so no answer differed from these. With the
+    /// store comes the image that was read, or an empty one: it stands for the items of the store.
     pub fn open(alloc: Global, disk: D) -> Result<(Kept<D, C>, Vec<u8>), (D, OpenFault)>
         ensures opened { IfOk result (λ made. (made.0.closed ≡ false) × (made.0.waiting ≡ 0)) }
         ensures left { (all now : List ℕ) → D.bytes disk ≡ Some all → IfOk result (λ made.

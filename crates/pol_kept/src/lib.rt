@@ -1,6 +1,6 @@
 //! Items kept on a disk, one after another: each is there whole or not at all, whenever a crash comes.
 //!
-//! What the items happen in is a `Chronicle`, which answers each and knows its text. The main contracts are those of
+//! The items happen in a `Chronicle`, which answers each and knows its text. The main contracts are those of
 //! `Kept::open`, which finds again what the disk keeps, of `Kept::admit`, which answers as the chronicle does, and of
 //! `Kept::commit`, which keeps all items that were admitted, by two syncs (`specs/Keeping.antt`). `specs/Stands.antt`
 //! says which items an image of the disk stands for. A record is a text of `pol_texts`. This crate knows nothing of

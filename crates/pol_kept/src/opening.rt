@@ -1,4 +1,4 @@
-//! A disk is opened.
+//! Opening a disk.
 ghost use Rattle.std.specs.Prelude.{◌≡◌, ℕ, List, Some, IfOk, IfErr, IfSome, OnOk, length};
 ghost use Rattle.pol_io.specs.Causes.{HasCauseOf};
 ghost use Rattle.pol_disk.specs.Disks.{LeavesOnly, StillTells, ToldOn, Keeps as KeepsImages};
@@ -21,7 +21,7 @@ pub enum OpenFault {
     Disk,
     /// The disk isn't a store.
     NotAStore {
-        /// The place of the first record that isn't one: how many bytes stand before it.
+        /// The place of the first record that isn't one: how many bytes come before it.
         place: u64,
     },
 }
@@ -48,8 +48,8 @@ impl From<Failed> for OpenFault {
     }
 }
 
-// The bytes of a disk that has so many. One whose first record is cut short is told by its first bytes, so that a large
-// file of another kind needs no memory.
+// The bytes of a disk that has so many. A disk whose first record is cut short is known by its first bytes, so that a
+// large file of another kind needs no memory.
 fn load_all<D: Disk, C: Chronicle>(
     alloc: Global,
     disk: &mut D,
@@ -85,8 +85,8 @@ pub struct Opened<C> {
     pub image: Vec<u8>,
 }
 
-/// Opens a disk. What is said of the bytes that the disk told before holds where it tells its bytes behind the call
-/// too: so each answer was right.
+/// Opens a disk. What is said of the disk's bytes before the call holds where its bytes are known after it too: so each
+/// answer was right.
 pub fn open_on<D: Disk, C: Chronicle>(alloc: Global, disk: &mut D) -> Result<Opened<C>, OpenFault>
     ensures left { (all now : List ℕ) → D.bytes disk.old ≡ Some all → D.bytes disk.new ≡ Some now
         → LeavesOnly D.moment D.left_since disk.old disk.new (IsLeftOf C.work all (D.images disk.old)) }

@@ -6,7 +6,7 @@ use crate::chronicle::Chronicle;
 use pol_texts::{CLOSED_GATE, Found, find};
 use std::alloc::{AllocError, Global};
 
-/// What stands where a record should.
+/// What is found where a record should be.
 #[derive(Drop)]
 pub enum Next<'a, T> {
     /// A closed gate.
@@ -17,7 +17,7 @@ pub enum Next<'a, T> {
     Broken,
 }
 
-/// How many bytes stand before the text of a record.
+/// How many bytes come before the text of a record.
 pub const GATE_AND_LENGTH: usize = 9;
 
 /// What is written behind the closed gate: the length of a text, the text and the next closed gate.
@@ -30,7 +30,7 @@ pub fn behind_gate(alloc: Global, text: &[u8]) -> Result<Vec<u8>, AllocError>
     Ok(behind)
 }
 
-/// What stands at the front of these bytes, behind the records of a chronicle's items. The buffer is room to work in.
+/// What is at the front of these bytes, behind the records of a chronicle's items. The buffer is room to work in.
 pub fn next_record<'a, C: Chronicle>(
     alloc: Global,
     chronicle: &C,

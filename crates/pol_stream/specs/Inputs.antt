@@ -11,7 +11,7 @@ use Rattle.pol_stream.specs.declared.more.ReadFault.TheVariants as of_source
 abbrev pub silent : (List ℕ → List ℕ) → Output Infallible
 silent closing = texts_of (λ lines. []) closing
 
--- why it ends where its input wasn't read for this
+-- why a job ends whose input wasn't read because of this fault
 abbrev pub fault_of : ReadFault → JobFault Infallible Infallible
 fault_of of_source.Read = Read
 fault_of of_source.Memory = Memory

@@ -2,7 +2,7 @@
 use Rattle.std.specs.Prelude.{◌≡◌, ◌≤◌, ◌++◌, List, ℕ, [], Bool, true, false, Option, length}
 use Rattle.std.specs.Io.KnownBytes.{Consumes, IsAtEnd}
 
--- these were all bytes, and none is left
+-- the bytes are all that there were, and none is left
 abbrev pub IsAll : List ℕ → List ℕ → List ℕ → Type 0
 IsAll all bytes left = (bytes ≡ all) × (left ≡ [])
 

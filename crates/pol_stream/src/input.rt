@@ -22,7 +22,7 @@ fn size_behind(len: usize) -> usize
     READ_TOGETHER.min(LONGEST_INPUT as usize + 1 - len)
 }
 
-// Why a job ends whose input wasn't read for this.
+// Why a job ends whose input wasn't read because of this fault.
 fn fault_of(fault: ReadFault) -> JobFault<Infallible, Infallible>
     ensures { result ≡ fault_of fault }
 {
@@ -32,8 +32,8 @@ fn fault_of(fault: ReadFault) -> JobFault<Infallible, Infallible>
     }
 }
 
-/// Reads an input to its end, and gives all its bytes. One that has more than 268,435,456 is refused, once these and one
-/// more were taken. Where it isn't read, a job that replies to no line, and has written nothing yet, ends so.
+/// Reads an input to its end, and gives all its bytes. One that has more than 268,435,456 is refused, once these and
+/// one more were taken. Where it isn't read, a job that replies to no line, and has written nothing yet, ends so.
 pub fn read_input<S: Source>(
     alloc: Global,
     source: &mut S,

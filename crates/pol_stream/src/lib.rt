@@ -1,4 +1,4 @@
-//! Sources that are read to their end before anything is made of their bytes.
+//! Reading a source to its end, before anything is done with its bytes.
 //!
 //! `read_to_end` gives all bytes of a source, however many they are, and `read_input` those of an input, which has at
 //! most so many. It knows nothing of what the bytes say.

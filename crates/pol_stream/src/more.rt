@@ -9,7 +9,7 @@ use std::alloc::AllocError;
 /// Why a source isn't read to its end.
 #[derive(Clone, Copy, Debug, PartialEq, Eq)]
 pub enum ReadFault {
-    /// It failed.
+    /// The source failed.
     Read,
     /// There was no memory for its bytes.
     Memory,

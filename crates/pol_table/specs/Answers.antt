@@ -1,4 +1,4 @@
--- What a table answers, read of the rows before the call.
+-- What a table answers, read off the rows before the call.
 use Rattle.std.specs.Prelude.{ℕ, List, [], ◌∷◌, length, Option, None, Some, Result, Ok, Err, is_some, map}
 use Rattle.std.specs.Option.{option_or}
 use Rattle.mtp_codes.specs.Faults.{done_unless, first_of}
@@ -9,7 +9,7 @@ use Rattle.pol_table.specs.declared.faults.LeaveFault.{LeaveFault}
 use Rattle.pol_table.specs.declared.faults.LeaveFault.TheVariants.{NoModule as NotThere, Held, Watched}
 use Rattle.pol_table.specs.declared.faults.HoldFault.{HoldFault}
 
--- what is found may leave where no batch holds it and none watches it
+-- a part that is found may leave where no batch holds it and none watches it
 abbrev pub parting_unless : {A : Type 0} → A → Option (List ℕ) → List (List ℕ) → Result A LeaveFault
 parting_unless found (Some batch) watchers = Err (Held batch)
 parting_unless found None (batch ∷ watchers) = Err (Watched batch)

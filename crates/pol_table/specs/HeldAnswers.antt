@@ -1,4 +1,4 @@
--- What the holdings of a table answer, read of the rows before the call.
+-- What the holdings of a table answer, read off the rows before the call.
 use Rattle.std.specs.Prelude.{ℕ, List, length, Option, None, Some, Result, Err, is_some, map}
 use Rattle.std.specs.Option.{option_or}
 use Rattle.mtp_codes.specs.Faults.{done_unless, first_of}

@@ -59,6 +59,6 @@ seat_leaving tag seats = seat_parting (lookup (bytes_eq tag) seats)
 abbrev pub seat_missing_at : List (List ℕ × Seat) → List ℕ → Option HoldFault
 seat_missing_at seats tag = missing_reason tag (is_some (lookup (bytes_eq tag) seats))
 
--- why a tag may not be held: its seat is
+-- why a tag may not be held: a batch holds its seat
 abbrev pub seat_busy_at : List (List ℕ × Seat) → List ℕ → Option HoldFault
 seat_busy_at seats tag = busy_reason tag (seat_holder tag seats)

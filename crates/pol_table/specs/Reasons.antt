@@ -14,7 +14,7 @@ use Rattle.pol_table.specs.declared.faults.HoldFault.TheVariants.{Busy, NoModule
 abbrev pub dock_reason : Bool → ℕ → Option DockFault
 dock_reason taken count = if taken then Some TagTaken else if nat_le MOST_MODULES count then Some PlantFull else None
 
--- what is found may leave where no batch holds it
+-- a part or a seat that is found may leave where no batch holds it
 abbrev pub parting : {A : Type 0} → A → Option (List ℕ) → Result A LeaveFault
 parting found None = Ok found
 parting found (Some batch) = Err (Held batch)
@@ -27,6 +27,6 @@ missing_reason tag there = if there then None else Some (Missing tag)
 abbrev pub busy_reason : List ℕ → Option (List ℕ) → Option HoldFault
 busy_reason tag holder = option_map (Busy tag) holder
 
--- the holder where this batch lets go
+-- the holder of a tag after this batch lets it go
 abbrev pub let_go : List ℕ → Option (List ℕ) → Option (List ℕ)
 let_go batch holder = if option_eq bytes_eq holder (Some batch) then None else holder

@@ -55,7 +55,7 @@ module _ {T : Type 0} where
   abbrev pub held_by : List ℕ → Row T → Row T
   held_by batch row = record row { holder = Some batch }
 
-  -- the row of a tag, watched by this batch behind all others, once for each time that the tag stands among these
+  -- the row of a tag, watched by this batch behind all others, once for each time that the tag is among these
   abbrev pub watched_among : List (List ℕ) → List ℕ → List ℕ → Row T → Row T
   watched_among tags batch tag row =
       record row { watchers = row.watchers ++ map (λ other. batch) (filter (λ other. bytes_eq other tag) tags) }

@@ -100,7 +100,7 @@ impl<T: Drop> Holdings<T> {
 
     /// Docks a part under a tag that no batch holds yet.
     ///
-    /// `TagTaken` where the tag is docked, `PlantFull` where it is new and 64 are docked, `Memory` for want of
+    /// `TagTaken` where the tag is docked, `PlantFull` where it is new and 64 are docked, `Memory` where there is no
     /// memory; each hands the part back.
     pub(crate) fn dock(&mut self, tag: Name, part: T) -> Result<(), (T, DockFault)>
         ensures ok { OnOk result (dock_fault tag self.old ≡ None) }

@@ -10,7 +10,7 @@ use indexmap::IndexMap;
 use mtp_codes::Name;
 use std::alloc::{AllocError, Global};
 
-// How many of the tags that have a seat stand before this one.
+// How many of the tags that have a seat come before this one.
 fn place_of(seats: &IndexMap<Name, Seat>, tag: Name) -> usize
     ensures { result ≡ place_among (keys_of seats.now.entries) tag }
 {

@@ -93,7 +93,7 @@ impl<T: Drop> Table<T> {
     ///
     /// # Errors
     ///
-    /// AllocError where memory is wanting for them.
+    /// AllocError where there is no memory for them.
     pub fn tags(&self, alloc: Global) -> Result<Vec<Name>, AllocError>
         ensures { IfOk result (λ tags. tags.items ≡ in_byte_order (keys_of self.now)) }
     {
@@ -117,7 +117,7 @@ impl<T: Drop> Table<T> {
 
     /// Docks a part under a tag that no batch holds or watches yet.
     ///
-    /// `TagTaken` where the tag is docked, `PlantFull` where it is new and 64 are docked, `Memory` for want of
+    /// `TagTaken` where the tag is docked, `PlantFull` where it is new and 64 are docked, `Memory` where there is no
     /// memory; each hands the part back.
     pub fn dock(&mut self, tag: Name, part: T) -> Result<(), (T, DockFault)>
         ensures ok { OnOk result (dock_fault tag self.old ≡ None) }
@@ -167,7 +167,7 @@ impl<T: Drop> Table<T> {
     }
 
     /// Lets the batch watch all of these tags, which are docked, behind all others; a tag that is named twice is
-    /// watched twice. For want of memory it watches none.
+    /// watched twice. Where there is no memory it watches none.
     pub fn watch_all(&mut self, tags: &[Name], batch: Name) -> Result<(), AllocError>
         requires { (tag : List ℕ) → is_among tags.now tag ≡ true → IsSome (look tag self.old) }
         ensures watched { OnOk result ((tag : List ℕ) → look tag self.new

@@ -24,7 +24,7 @@ pub(crate) fn watcher_at(watches: &[Watch], tag: Name, place: u32) -> Option<Nam
     None
 }
 
-/// The batch watches these tags too, behind all others; where memory is wanting nothing has changed.
+/// The batch watches these tags too, behind all others; where there is no memory nothing has changed.
 pub(crate) fn add_each(
     watches: &mut Vec<Watch>,
     tags: &[Name],

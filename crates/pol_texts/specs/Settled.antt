@@ -3,11 +3,11 @@ use Rattle.std.specs.Prelude.{◌≡◌, ◌<◌, ◌^◌, ℕ, List, ◌∷◌,
 use Rattle.pol_disk.specs.Disks.{BothTell, Only}
 use Rattle.pol_texts.specs.Stands.{Begins, body_of}
 
--- bytes are told before and after, or neither before nor after
+-- bytes are known before and after, or neither before nor after
 abbrev pub AreAlike : Option (List ℕ) → Option (List ℕ) → Type 0
 AreAlike old new = BothTell (λ (x y : List ℕ). ⊤) old new
 
--- the disk tells these bytes, and a crash leaves nothing else
+-- the bytes of the disk are known to be these, and a crash leaves nothing else
 pub record IsSynced (seen : Option (List ℕ)) (images : List ℕ → Type 0) (bytes : List ℕ) : Type 0 where
   pub told : seen ≡ Some bytes
   pub only : Only bytes images
@@ -29,7 +29,7 @@ abbrev pub opened_records : List (List ℕ) → List ℕ
 opened_records [] = []
 opened_records (text ∷ texts) = 1 ∷ (body_of text ++ opened_records texts)
 
--- what stands behind the gate of the first of these records
+-- what comes behind the gate of the first of these records
 abbrev pub group_body : List (List ℕ) → List ℕ
 group_body [] = []
 group_body (text ∷ texts) = body_of text ++ opened_records texts
@@ -46,7 +46,7 @@ pub record IsGroup (group : List (List ℕ)) (behind : List ℕ) : Type 0 where
   pub counted : AreCounted group
   pub is : behind ≡ group_body group ++ 0 ∷ []
 
--- these bytes wait to be written for these texts: none for none
+-- these bytes wait to be written for these texts: no bytes for no texts
 abbrev pub IsStaged : List (List ℕ) → List ℕ → Type 0
 IsStaged [] behind = behind ≡ []
 IsStaged (text ∷ texts) behind = IsGroup (text ∷ texts) behind

@@ -1,4 +1,4 @@
-//! Texts are put behind the others.
+//! Adding texts behind the others.
 ghost use Rattle.std.specs.Prelude.{◌≡◌, ◌+◌, ◌-◌, ◌<◌, ◌≤◌, ◌^◌, ◌++◌, ◌∷◌, [], ℕ, List, IfSome, OnOk, length};
 ghost use Rattle.pol_io.specs.Causes.{HasCause};
 ghost use Rattle.pol_disk.specs.Disks.{LeavesOnly, ToldOn};
@@ -10,9 +10,9 @@ use crate::putting::put;
 use pol_disk::Disk;
 use pol_io::Failed;
 
-/// Writes what stands behind the closed gate at `end` for a group of texts, their records but the first gate and the
-/// next closed gate, and then opens the gate. A crash meanwhile leaves the texts of before, or these and all of the
-/// group. It makes two syncs, however many texts there are.
+/// Writes what goes behind the closed gate at `end` for a group of texts, their records but the first gate and the next
+/// closed gate, and then opens the gate. A crash meanwhile leaves the texts of before, or these and all of the group.
+/// It makes two syncs, however many texts there are.
 pub fn add<D: Disk>(disk: &mut D, end: u64, behind: &[u8]) -> Result<(), Failed>
     requires { (end < 2 ^ 64 - 1) × IfSome (D.bytes disk.old) (λ all. end < length all) }
     ensures moments { (texts group : List (List ℕ)) → IsGroup group behind.now

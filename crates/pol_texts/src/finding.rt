@@ -1,11 +1,11 @@
-//! What stands at a place of an image where a gate should stand.
+//! What is found at a place of an image where a gate should be.
 ghost use Rattle.std.specs.Prelude.{◌≡◌, List, ℕ, MatchOption};
 ghost use Rattle.pol_texts.specs.Finds.{IsFound};
 ghost use Rattle.pol_texts.specs.Stands.{IsBody};
 
 use crate::gate::CLOSED_GATE;
 
-/// What stands where a gate should stand.
+/// What is found where a gate should be.
 #[derive(Clone, Copy, Debug, PartialEq, Eq)]
 pub enum Found<'a> {
     /// A closed gate.
@@ -16,7 +16,7 @@ pub enum Found<'a> {
     Neither,
 }
 
-/// How many bytes tell the length of a text.
+/// How many bytes hold the length of a text.
 pub const LENGTH_BYTES: usize = 8;
 
 // The text of a body, where it isn't cut short.
@@ -32,7 +32,7 @@ fn text_of(body: &[u8]) -> Option<&[u8]>
     Some(&behind[..size as usize])
 }
 
-/// What stands at the front of these bytes.
+/// What is at the front of these bytes.
 pub fn find(bytes: &[u8]) -> Found<'_>
     ensures { IsFound bytes.now result }
 {

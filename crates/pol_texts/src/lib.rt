@@ -1,8 +1,8 @@
 //! Texts kept on a disk, one after another: each is there whole or not at all, whenever a crash comes.
 //!
-//! A record is a gate byte, eight bytes with the text's length, and the text; behind the last record stands a closed
+//! A record is a gate byte, eight bytes with the text's length, and the text; behind the last record comes a closed
 //! gate (`specs/Stands.antt`). Texts are added as a group, of one or of many, in two steps, each written and synced:
-//! first what stands behind the closed gate, up to the next closed one, and then the gate is opened. A crash leaves all
+//! first what goes behind the closed gate, up to the next closed one, and then the gate is opened. A crash leaves all
 //! of the group or none of it (`specs/Settled.antt`). It knows nothing of what the texts say.
 //!
 //! Tried in `pol_examples`.

@@ -1,4 +1,4 @@
-//! What the first bytes of a disk tell.
+//! What the first bytes of a disk show.
 ghost use Rattle.std.specs.Prelude.{◌≡◌, ℕ, List, IfOk, IfSome, length, take};
 ghost use Rattle.std.specs.Bool.{Decides};
 ghost use Rattle.pol_io.specs.Causes.{HasCause};
@@ -11,11 +11,11 @@ use crate::loading::read_front;
 use pol_disk::Disk;
 use pol_io::Failed;
 
-// How many bytes stand before the text of a record.
+// How many bytes come before the text of a record.
 const GATE_AND_LENGTH: usize = 1 + LENGTH_BYTES;
 
-// Whether neither a closed gate nor a record stands at the front of an image that has so many bytes. The bytes that
-// stand before the text of a first record tell it.
+// Whether an image that has so many bytes begins neither with a closed gate nor with a record. The bytes that come
+// before the text of a first record show it.
 fn is_cut_short(front: &[u8], size: u64) -> bool
     ensures { (image : List ℕ) → front.now ≡ take 9 image → size ≡ length image
         → Decides result (IsFound image Found.Neither) }
@@ -34,8 +34,8 @@ fn is_cut_short(front: &[u8], size: u64) -> bool
     }
 }
 
-/// Whether neither a closed gate nor a record stands at the front of a disk that has so many bytes. It reads no more of
-/// them than stand before the text of a first record, and needs no memory.
+/// Whether a disk that has so many bytes begins neither with a closed gate nor with a record. It reads no more of them
+/// than come before the text of a first record, and needs no memory.
 pub fn begins_cut_short<D: Disk>(disk: &mut D, size: u64) -> Result<bool, Failed>
     requires { IfSome (D.bytes disk.old) (λ all. size ≡ length all) }
     ensures told { IfOk result (λ cut. IfSome (D.bytes disk.new) (λ all. Decides cut (IsFound all Found.Neither))) }

@@ -1,4 +1,4 @@
-//! A piece that is written and synced.
+//! Writing a piece and syncing it.
 ghost use Rattle.std.specs.Prelude.{◌≡◌, ◌≤◌, ℕ, List, Some, IfSome, OnOk, length};
 ghost use Rattle.pol_io.specs.Causes.{HasCause};
 ghost use Rattle.pol_disk.specs.Disks.{BothTell, Holds, LeavesOnly, ToldOn, Torn, spliced};

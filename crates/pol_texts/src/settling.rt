@@ -1,4 +1,4 @@
-//! A disk is synced and measured.
+//! Syncing a disk and measuring it.
 ghost use Rattle.std.specs.Prelude.{◌≡◌, ℕ, List, Some, IfOk, IfSome, OnOk, length};
 ghost use Rattle.pol_io.specs.Causes.{HasCause};
 ghost use Rattle.pol_disk.specs.Disks.{Keeps, LeavesOnly, StillTells};
