@@ -1,4 +1,4 @@
-//! The program `pol`: a process orchestration layer for modular plants. All that it does stands in `pol_cli::run`.
+//! The program `pol`: a process orchestration layer for modular plants. All that it does is in `pol_cli::run`.
 #![tactic(auto)]
 
 use pol_file::{FileDisk, FileToRead, Unknown};

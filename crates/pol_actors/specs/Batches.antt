@@ -19,7 +19,7 @@ abbrev pub is_refusal_passing : Result ⊤ Rule → Bool
 is_refusal_passing (Ok done) = false
 is_refusal_passing (Err rule) = is_passing rule
 
--- its start, unless it waits
+-- the start of a batch, unless it waits
 abbrev pub start_event : History → PlainSiteBatch → Option PlainEvent
 start_event history batch =
     if is_refusal_passing (refusal (answer_of history (start 0 batch.batch batch.recipe batch.binds)))
@@ -33,17 +33,17 @@ goes_on (Some (next.Waiting obstacle)) = false
 goes_on (Some (next.Did entry)) = true
 goes_on (Some (next.Closed outcome)) = true
 
--- its advance, where it goes on
+-- the advance of a batch, where it goes on
 abbrev pub advance_event : List ℕ → Option Next → Option PlainEvent
 advance_event batch next = if goes_on next then Some (advance 0 batch) else None
 
--- its start, and once it is started its advance
+-- the next event of a batch: its start, and once it is started its advance
 abbrev pub batch_event : History → PlainSiteBatch → Stage → Option PlainEvent
 batch_event history batch stage.Unsent = start_event history batch
 batch_event history batch stage.Refused = None
 batch_event history batch stage.Started = advance_event batch.batch (open_next history batch.batch)
 
--- where it stands after its event was answered so
+-- the stage of a batch after its event was answered so
 abbrev pub stage_after : Stage → Answer → Stage
 stage_after stage.Unsent (Refused rule) = stage.Refused
 stage_after stage.Unsent answer = stage.Started

@@ -1,4 +1,4 @@
--- What the exchanger does next, and where it stands.
+-- What the exchanger does next, and its state afterwards.
 use Rattle.std.specs.Prelude.{ℕ, suc, pred, ◌+◌, nat_lt, Bool, false, List, length, Option, Some, None, Result, Ok, Err}
 use Rattle.std.specs.Prelude.{⊤, option_map, slice_get, if◌then◌else◌}
 use Rattle.pol_events.specs.Events.{PlainEvent, recipe, plug, exchange_begin, exchange_end, exchange_cancel}
@@ -18,11 +18,11 @@ use Rattle.pol_actors.specs.declared.exchanger.Exchanger.{Exchanger}
 use Rattle.pol_actors.specs.declared.exchanger.Standing.{Standing}
 use Rattle.pol_actors.specs.declared.exchanger.Standing.TheVariants as standing
 
--- at first: nothing was done
+-- the exchanger at first: nothing was done
 abbrev pub first_exchanger : Exchanger
 first_exchanger = record { opened = 0; begun = 0; standing = standing.Closed }
 
--- ---- what it does next
+-- ---- what the exchanger does next
 
 -- the refusal is one for which an exchange waits
 abbrev pub is_refusal_busy : Result ⊤ Rule → Bool
@@ -37,13 +37,13 @@ begin_errand history count (Some exchange) =
     else if is_refusal_busy (refusal (answer_of history (exchange_begin 0 exchange.tag))) then None
     else Some (errand.Begin exchange.tag)
 
--- by where the exchanges stand: the begin of the next one, or the end or the cancelling of the one that is open
+-- the next errand of the exchanges: the begin of the next one, or the end or the cancelling of the one that is open
 abbrev pub exchange_errand : PlainSite → History → ℕ → ℕ → Standing → Option Errand
 exchange_errand site history count begun standing.Closed = begin_errand history count (slice_get site.exchanges begun)
 exchange_errand site history count begun (standing.Begun tag ticket) = Some (errand.End tag ticket (pred begun))
 exchange_errand site history count begun (standing.SentBack tag ticket) = Some (errand.Cancel tag ticket)
 
--- the recipes and modules first, and then the exchanges
+-- the next errand: the recipes and modules first, and then the exchanges
 abbrev pub errand_of : PlainSite → History → ℕ → Exchanger → Option Errand
 errand_of site history count exchanger =
     if nat_lt exchanger.opened (length site.recipes + length site.modules)
@@ -52,15 +52,15 @@ errand_of site history count exchanger =
 
 -- ---- the event of an errand
 
--- a recipe is made known
+-- the event that makes a recipe known
 abbrev pub know_event : PlainSiteRecipe → PlainEvent
 know_event each = recipe 0 each.recipe each.chart
 
--- a module is plugged
+-- the event that plugs a module
 abbrev pub plug_event : PlainSiteModule → PlainEvent
 plug_event unit = plug 0 unit.tag unit.description
 
--- an exchange ends
+-- the event that ends an exchange
 abbrev pub end_event : List ℕ → ℕ → PlainSiteExchange → PlainEvent
 end_event tag ticket exchange = exchange_end 0 tag ticket exchange.description
 
@@ -71,7 +71,7 @@ event_of site (errand.Begin tag) = Some (exchange_begin 0 tag)
 event_of site (errand.End tag ticket place) = option_map (end_event tag ticket) (slice_get site.exchanges place)
 event_of site (errand.Cancel tag ticket) = Some (exchange_cancel 0 tag ticket)
 
--- ---- where it stands
+-- ---- the exchanger's state
 
 -- the exchanges as the exchanger sees them
 abbrev pub exchanging_in : Standing → Exchanging
@@ -79,12 +79,12 @@ exchanging_in standing.Closed = none_open
 exchanging_in (standing.Begun tag ticket) = was_begun tag ticket
 exchanging_in (standing.SentBack tag ticket) = was_held tag ticket
 
--- after a begin that was answered so
+-- the state of the exchanges after a begin that was answered so
 abbrev pub begun_standing : List ℕ → Answer → Standing
 begun_standing tag (Ticket ticket) = standing.Begun tag ticket
 begun_standing tag _ = standing.Closed
 
--- after an end that was answered so
+-- the state of the exchanges after an end that was answered so
 abbrev pub ended_standing : List ℕ → ℕ → Answer → Standing
 ended_standing tag ticket (Refused (HeldBack batch missing)) = standing.SentBack tag ticket
 ended_standing tag ticket _ = standing.Closed

@@ -39,7 +39,7 @@ is_begun (standing.Begun tag ticket) = true
 is_begun (standing.SentBack tag ticket) = false
 
 -- what a history says to the exchanger: how many recipes and modules had their events, how many exchanges were begun
--- and where they stand, which tags are there and how many
+-- and in what state they are, which tags are there and how many
 pub record Progress : Type 0 where
   pub opened : ℕ
   pub begun : ℕ
@@ -48,7 +48,7 @@ pub record Progress : Type 0 where
   pub there : List ℕ → Bool
   pub present : ℕ
 
--- so it says, where these tags are there
+-- what a history says to the exchanger, where these tags are there
 abbrev pub progress_with : History → (List ℕ → Bool) → Progress
 progress_with history there =
     record {
@@ -60,12 +60,12 @@ progress_with history there =
       present = length (present_tags history);
     }
 
--- a tag is there that is docked or away
+-- what a history says to the exchanger, where the tags that are docked or away are there
 abbrev pub progress_of : History → Progress
 progress_of history = progress_with history (λ tag. is_there (docking_of history tag))
 
--- it stands where the history says; no exchange began before all recipes and modules had their events; the exchange
--- that was begun is one of the site's; the modules that had their events are there, and no others are
+-- the exchanger is where the history says; no exchange began before all recipes and modules had their events; the
+-- exchange that was begun is one of the site's; the modules that had their events are there, and no others are
 pub record StandsAt (site : PlainSite) (now : Progress) (exchanger : Exchanger) : Type 0 where
   pub opened_is : exchanger.opened ≡ now.opened
   pub begun_is : exchanger.begun ≡ now.begun
@@ -79,14 +79,14 @@ pub record StandsAt (site : PlainSite) (now : Progress) (exchanger : Exchanger) 
       length site.recipes + place < now.opened → now.there unit.tag ≡ true
   pub few : 0 < now.present → now.present + length site.recipes ≤ now.opened
 
--- by its history
+-- the exchanger is where its history says
 abbrev pub IsExchanger : PlainSite → History → Exchanger → Type 0
 IsExchanger site history exchanger = StandsAt site (progress_of history) exchanger
 
 -- ---- a batch
 
--- by its last entry and its start: neither is there; its start was refused; or it was started, and its last entry was
--- accepted
+-- the stage of a batch by its last entry and its start: neither is there; its start was refused; or it was started, and
+-- its last entry was accepted
 abbrev pub IsStageBy : Option PlainEntry → Option Started → Stage → Type 0
 IsStageBy last begun stage.Unsent = (last ≡ None) × (begun ≡ None)
 IsStageBy last begun stage.Refused =
@@ -94,7 +94,7 @@ IsStageBy last begun stage.Refused =
 IsStageBy last begun stage.Started =
     ((entry : PlainEntry) × (last ≡ Some entry) × (is_accepted entry.answer ≡ true)) × (is_some begun ≡ true)
 
--- the batch of this name stands so
+-- the batch of this name is at this stage
 abbrev pub IsStage : History → List ℕ → Stage → Type 0
 IsStage history batch stage = IsStageBy (last_entry_of batch history) (start_of history batch) stage
 
@@ -109,7 +109,7 @@ pub record IsOrigin (description : Option PlainDescription) (plan : Option Plain
 abbrev pub IsBrought : PlainSite → List ℕ → History → Origin → Type 0
 IsBrought site tag past origin = IsOrigin (description_by past) (plan_by site tag past) origin
 
--- its simulation keeps up with the history; before there is one nothing happened to the module since it was docked
+-- a module's simulation keeps up with the history; before there is one nothing happened to the module since docking
 abbrev pub IsMadeUp : PlainSite → List ℕ → History → Option Simulation → Type 0
 IsMadeUp site tag history None =
     (since_docking (past tag history) ≡ []) × (since_docking (story tag history) ≡ [])
@@ -126,13 +126,13 @@ pub record IsUnit (site : PlainSite) (unit : PlainSiteModule) (history : History
 
 -- ---- all
 
--- each batch of the site
+-- each batch of the site is at its stage
 abbrev pub AreStages : PlainSite → History → List Stage → Type 0
 AreStages site history stages =
     (place : ℕ) (batch : PlainSiteBatch) (stage : Stage) → slice_get site.batches place ≡ Some batch →
     slice_get stages place ≡ Some stage → IsStage history batch.batch stage
 
--- each module of the site
+-- each module of the site is what the history says
 abbrev pub AreUnits : PlainSite → History → List Module → Type 0
 AreUnits site history units =
     (place : ℕ) (unit : PlainSiteModule) (own : Module) → slice_get site.modules place ≡ Some unit →
@@ -142,7 +142,7 @@ AreUnits site history units =
 abbrev pub AreOwners : PlainSite → History → List ℕ → Type 0
 AreOwners site history by = map Some by ≡ map (λ entry. owner_of site entry.event) (reverse history)
 
--- the history is legal, follows its site, each change has its command, each entry has its owner, and each actor stands
+-- the history is legal, follows its site, each change has its command, each entry has its owner, and each actor is
 -- where the history says
 pub record IsKept (site : PlainSite) (history : History) (by : List ℕ) (exchanger : Exchanger)
     (units : List Module) (stages : List Stage) (desk : Desk) : Type 0 where
@@ -160,12 +160,12 @@ pub record IsKept (site : PlainSite) (history : History) (by : List ℕ) (exchan
   pub desk_is : desk.ordered ≡ ordered history
   pub desk_within : ordered history ≤ length site.desk
 
--- modules at first
+-- the modules at first: none was brought by an exchange, and none is simulated
 abbrev pub AreFirstUnits : ℕ → List Module → Type 0
 AreFirstUnits count units =
     (length units ≡ count)
     × AllByRecursion (λ (own : Module). (own.made ≡ None) × (own.brought ≡ None)) units
 
--- batches at first
+-- the batches at first: the start of none was sent
 abbrev pub AreFirstStages : ℕ → List Stage → Type 0
 AreFirstStages count stages = (length stages ≡ count) × AllByRecursion (λ each. each ≡ stage.Unsent) stages

@@ -8,15 +8,15 @@ use Rattle.pol_actors.specs.declared.exchanger.Errand.{Errand}
 use Rattle.pol_actors.specs.declared.exchanger.Errand.TheVariants as errand
 use Rattle.pol_actors.specs.declared.unit.Unit.{Unit as Module}
 
--- the module whose exchange it is about
+-- the tag of the module whose exchange an errand is about
 abbrev pub errand_tag : Errand → Option (List ℕ)
 errand_tag (errand.Open place) = None
 errand_tag (errand.Begin tag) = Some tag
 errand_tag (errand.End tag ticket place) = Some tag
 errand_tag (errand.Cancel tag ticket) = Some tag
 
--- that module after the errand was answered so: its simulation is dropped, and after an end that is done it is the
--- module that the exchange brought
+-- the module of an errand after the errand was answered so: its simulation is dropped, and after an end that is done it
+-- is the module that the exchange brought
 abbrev pub unit_after : Errand → Answer → Module → Module
 unit_after (errand.Open place) answer own = own
 unit_after (errand.Begin tag) answer own = record { made = None; brought = own.brought }
@@ -29,7 +29,7 @@ abbrev pub put_at : {A : Type 0} → List A → ℕ → (A → A) → Option A �
 put_at xs place change None = xs
 put_at xs place change (Some x) = slice_set xs place (change x)
 
--- likewise, if there is a place
+-- the list with the item at a place changed, if there is a place
 abbrev pub changed_at : {A : Type 0} → List A → Option ℕ → (A → A) → List A
 changed_at xs None change = xs
 changed_at xs (Some place) change = put_at xs place change (slice_get xs place)

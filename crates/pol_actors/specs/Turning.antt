@@ -17,38 +17,38 @@ use Rattle.pol_actors.specs.declared.unit.Unit.{Unit as Module}
 
 -- ---- a turn of a simulated module
 
--- it reports, or it looked
+-- what a module does by a report of its simulation: it reports that, or without one it looked
 abbrev pub decision_by : Option SimReport → Decision
 decision_by None = Looks
 decision_by (Some report) = Reports report
 
--- after a tick
+-- a simulation after a tick
 abbrev pub made_ticked : Simulation → Simulation
 made_ticked made = record { sim = ticked made.sim; place = made.place }
 
--- after it looked at the next command, if there is one; it then looks from the place after it on
+-- a simulation after it looked at the next command, if there is one; it then looks from the place after that on
 abbrev pub made_looked : Option Sent → ℕ → Simulation → Simulation
 made_looked None place made = record { sim = made.sim; place = place }
 made_looked (Some sent) place made =
     record { sim = after_command made.sim (took made.sim sent.service sent.command sent.procedure); place = place }
 
--- what it does, with nothing pending
+-- what a simulation does with nothing pending, where this is the next command
 abbrev pub free_decides : Option Sent → Simulation → Decision
 free_decides (Some sent) made = Looks
 free_decides None made = if is_at_rest made.sim then Rests else decision_by (tick_report made.sim)
 
--- and what it is then
+-- a simulation after a turn with nothing pending
 abbrev pub free_after : Option Sent → ℕ → Simulation → Simulation
 free_after (Some sent) place made = made_looked (Some sent) place made
 free_after None place made =
     if is_at_rest made.sim then made_looked None place made else made_ticked (made_looked None place made)
 
--- what it does, where this is the next command, with the place after it
+-- what a simulation does in a turn, where this is the next command, with the place after it
 abbrev pub made_decides : Option Sent × ℕ → Simulation → Decision
 made_decides found made =
     if is_pending made.sim then decision_by (tick_report made.sim) else free_decides found.0 made
 
--- and what it is then
+-- a simulation after a turn, where this is the next command, with the place after it
 abbrev pub made_after : Option Sent × ℕ → Simulation → Simulation
 made_after found made = if is_pending made.sim then made_ticked made else free_after found.0 found.1 made
 
@@ -64,20 +64,20 @@ abbrev pub origin_by : PlainSiteModule → Option PlainSiteExchange → Origin
 origin_by unit None = record { description = unit.description; plan = unit.plan }
 origin_by unit (Some exchange) = record { description = exchange.description; plan = exchange.plan }
 
--- the module of the exchange that brought it, if one did, or else that of the site
+-- the origin of a module: that of the exchange that brought it, if one did, or else that of the site
 abbrev pub origin_of : PlainSite → PlainSiteModule → Option ℕ → Origin
 origin_of site unit brought = origin_by unit (option_and_then (slice_get site.exchanges) brought)
 
--- its simulation at first, which looks from a place on
+-- the simulation of a module at first, which looks from a place on
 abbrev pub first_made : Origin → ℕ → Simulation
 first_made origin place = record { sim = first_sim origin.description origin.plan; place = place }
 
--- the simulation that it has, or else a first one
+-- the simulation that a module has, or else a first one
 abbrev pub made_or : Option Simulation → Simulation → Simulation
 made_or None first = first
 made_or (Some made) first = made
 
--- the simulation with which it takes its turn, where the history has this length
+-- the simulation with which a module takes its turn, where the history has this length
 abbrev pub made_of : PlainSite → PlainSiteModule → ℕ → Module → Simulation
 made_of site unit count own = made_or own.made (first_made (origin_of site unit own.brought) count)
 

@@ -15,7 +15,7 @@ use pol_events::{Answer, Bind, Event, Rule};
 use pol_site::SiteBatch;
 use std::alloc::{AllocError, Global};
 
-/// Where a batch stands.
+/// The stage of a batch.
 #[derive(Clone, Copy, Debug, PartialEq, Eq)]
 pub enum Stage {
     /// Its start wasn't sent yet.
@@ -135,7 +135,7 @@ impl Stage {
         }
     }
 
-    /// Where it stands after its event was answered so.
+    /// The stage after the batch's event was answered so.
     pub fn after(self, answer: &Answer) -> Stage
         ensures { result ≡ stage_after self answer.now }
     {

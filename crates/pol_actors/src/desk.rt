@@ -7,7 +7,7 @@ ghost use Rattle.pol_actors.specs.Orders.{order_event};
 use pol_events::Event;
 use pol_site::Site;
 
-/// Where the desk stands.
+/// The state of the desk.
 #[derive(Clone, Copy, Debug, PartialEq, Eq)]
 pub struct Desk {
     /// How many of its commands it sent.

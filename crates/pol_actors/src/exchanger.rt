@@ -20,7 +20,7 @@ use pol_events::{Answer, Event, Rule};
 use pol_site::{Site, SiteExchange, SiteModule, SiteRecipe};
 use std::alloc::AllocError;
 
-/// Where the exchanges stand.
+/// The state of the exchanges.
 #[derive(Clone, Copy, Debug, PartialEq, Eq)]
 pub enum Standing {
     /// None is open.
@@ -31,7 +31,7 @@ pub enum Standing {
     SentBack { tag: Name, ticket: u32 },
 }
 
-/// Where the exchanger stands.
+/// The state of the exchanger.
 #[derive(Clone, Copy, Debug, PartialEq, Eq)]
 pub struct Exchanger {
     /// How many recipes and modules had their events.
@@ -130,7 +130,7 @@ impl Exchanger {
         }
     }
 
-    /// Where it stands after the event of an errand was answered so.
+    /// The exchanger after the event of an errand was answered so.
     pub fn after(&self, errand: &Errand, answer: &Answer) -> Exchanger
         requires few { (self.now.opened < 2 ^ 32) × (self.now.begun < 2 ^ 32) }
         ensures { result ≡ exchanger_after self.now errand.now answer.now }
@@ -157,7 +157,7 @@ impl Exchanger {
     }
 }
 
-// Where the exchanges stand after a begin that was answered so.
+// The state of the exchanges after a begin that was answered so.
 fn begun_standing(tag: Name, answer: &Answer) -> Standing
     ensures { result ≡ begun_standing tag answer.now }
 {
@@ -170,7 +170,7 @@ fn begun_standing(tag: Name, answer: &Answer) -> Standing
     }
 }
 
-// Where they stand after an end that was answered so.
+// The state of the exchanges after an end that was answered so.
 fn ended_standing(tag: Name, ticket: u32, answer: &Answer) -> Standing
     ensures { result ≡ ended_standing tag ticket answer.now }
 {

@@ -1,6 +1,6 @@
-//! The actors of a site: what each decides to do next, and where it stands afterwards. The exchanger makes recipes
-//! known, plugs modules and works through the exchanges; a module looks for its commands and reports; a batch starts
-//! and advances; the desk sends its commands.
+//! The actors of a site: what each of them does next, and its state afterwards. The exchanger makes recipes known,
+//! plugs modules and works through the exchanges; a module looks for its commands and reports; a batch starts and
+//! advances; the desk sends its commands.
 //!
 //! Each actor is a small value beside a plant that it only looks at; what it decides is defined over the site, the
 //! history and that value (`specs/`). It knows nothing of locks, threads, clocks or of who takes turns.

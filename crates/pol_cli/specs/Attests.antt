@@ -1,4 +1,4 @@
--- An audit that tells which bytes it read.
+-- An audit that says which bytes it read.
 use Rattle.std.specs.Prelude.{ℕ, List, ◌++◌, length, codes}
 use Rattle.std.specs.declared.convert.Infallible.{Infallible}
 use Rattle.hex.specs.Hex.{encode_lower}
@@ -15,7 +15,7 @@ unfoldable pub read_object : ℕ → List ℕ → Data
 read_object count sum =
     object (member (codes "bytes") (number (unsigned count)) (member (codes "sha256") (string sum) no_members))
 
--- the line that tells which bytes were read: how many, and their SHA-256 in hex
+-- the line that says which bytes were read: how many, and their SHA-256 in hex
 abbrev pub read_text : List ℕ → List ℕ
 read_text bytes = line_text (read_object (length bytes) (encode_lower (sha256 bytes)))
 
@@ -23,6 +23,6 @@ read_text bytes = line_text (read_object (length bytes) (encode_lower (sha256 by
 abbrev pub attested_text : List ℕ → List ℕ
 attested_text bytes = verdict_text (audit_of bytes) ++ read_text bytes
 
--- the output of such an audit: nothing for lines, and these two lines for an input
+-- the output of an audit that says which bytes it read: nothing for lines, and two lines for an input
 abbrev pub attested : Output Infallible
 attested = silent attested_text

@@ -16,7 +16,7 @@ use Rattle.pol_jobs.specs.LineWork.{Line, LineWork, Output, texts_of, work_of}
 use Rattle.pol_retold.specs.Inputs.{lines_read}
 use Rattle.pol_replay.specs.Meanings.{is_some_line}
 
--- ---- its output
+-- ---- the output of an audit
 
 -- the verdict over an input
 abbrev pub audit_of : List ℕ → Verdict
@@ -26,7 +26,7 @@ audit_of bytes = verdict_of (lines_read bytes)
 abbrev pub audited : Output Infallible
 audited = texts_of (λ lines. []) (λ input. verdict_text (audit_of input))
 
--- ---- its work
+-- ---- the work of an audit
 
 -- what is kept after one more line
 abbrev pub after_audited : Read → Line → Read
@@ -48,7 +48,7 @@ pub record IsTrueRecord (history : History) : Type 0 where
       run_of (map (λ entry. entry.event) (entries_without tags (events_of history)))
       ≡ entries_without tags (events_of history)
 
--- where the verdict over an input is good, the entry lines spell such a history, of so many entries
+-- Where the verdict over an input is good, the entry lines spell a true record of a history, of so many entries.
 abbrev pub AuditTheorem : List ℕ → Type 0
 AuditTheorem bytes =
     (count : ℕ) → audit_of bytes ≡ verdict.Good count →

@@ -26,10 +26,10 @@ pub record CompactionTheorem : Type 0 where
   pub once : OnceMoreIsAtOnce
   -- under any policy lines are replied to alike
   pub replies : CompactionRepliesAlike
-  -- and so are an operator's commands
+  -- under any policy an operator's commands have the same verdict and the same answer
   pub commands : CompactionCommandsAlike
   -- for new batches the same bindings are found
   pub found : (events later : List PlainEvent) → AreOrderly events →
       bindings_text (renewed_after events later) ≡ bindings_text (whole_after events later)
-  -- the same is told of what stands in the plant
+  -- the overview says the same of the plant
   pub tells : CompactionTellsAlike

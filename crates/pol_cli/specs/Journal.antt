@@ -22,8 +22,8 @@ pub record JournalTheorem (bytes : List ℕ) : Type 0 where
   pub removal : (tags : List (List ℕ)) → output_of (without tags bytes) ≡ output_without tags bytes
   pub longer : length (answers_of bytes) < length (output_of bytes)
 
--- what holds of every legal history, whether an input leaves it or a kept plant has it; the theorem rests on it:
--- whatever events come leave a legal one
+-- What holds of every legal history, whether an input leaves it or a kept plant has it; the theorem rests on it:
+-- whatever events come leave a legal one.
 pub record Laws : Type 0 where
   pub runs : RunsAreLegal
   pub histories : HistoriesAreSound

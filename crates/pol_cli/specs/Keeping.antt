@@ -27,11 +27,11 @@ pub record HoldsEvents {D : Type 0} (disk : Disks D) (status : Status) : Type 0 
 abbrev pub DiskFailed : {D : Type 0} → Disks D → Type 0
 DiskFailed disk = Rose (disk.tells.faults disk.before) (disk.tells.faults disk.after)
 
--- the status tells that the disk is no store, or there was no memory
+-- the status says that the disk is no store, or that there was no memory
 abbrev pub IsNotBegun : Status → Type 0
 IsNotBegun status = ((place : ℕ) × (status ≡ NotAStore place)) ⊎ (status ≡ OutOfMemory)
 
--- where the disk read as bytes that no list of events stands for, told its bytes to the end and didn't fail, nothing
+-- where the disk read as bytes that no list of events stands for, gave its bytes to the end and didn't fail, nothing
 -- was begun
 abbrev pub BeginsOnStores : {D : Type 0} → Disks D → Status → Type 0
 BeginsOnStores disk status =

@@ -13,11 +13,11 @@ use Rattle.pol_cli.specs.Worked.{Disks}
 use Rattle.pol_cli.specs.declared.status.Status.{Status}
 use Rattle.pol_cli.specs.declared.status.Status.TheVariants.{OutOfMemory, NotALedger}
 
--- the status tells that the disk is no ledger, or there was no memory
+-- the status says that the disk is no ledger, or that there was no memory
 abbrev pub IsNotOpened : Status → Type 0
 IsNotOpened status = ((place : ℕ) × (status ≡ NotALedger place)) ⊎ (status ≡ OutOfMemory)
 
--- where the disk read as bytes that no items stand for, told its bytes to the end and didn't fail, nothing was begun
+-- where the disk read as bytes that no items stand for, gave its bytes to the end and didn't fail, nothing was begun
 abbrev pub BeginsOnLedgers : {D : Type 0} → Disks D → Status → Type 0
 BeginsOnLedgers ledger status =
     (all later : List ℕ) → ledger.tells.bytes ledger.before ≡ Some all →

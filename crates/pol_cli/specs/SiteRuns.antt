@@ -49,7 +49,7 @@ entries_text history = flat_map entry_line_text (reverse history)
 abbrev pub AreReadBack : List PlainEntry → Type 0
 AreReadBack entries = AllByRecursion IsReadBack entries
 
--- and each entry from its line
+-- each of these entries is read back from its line
 abbrev pub AreRetold : List PlainEntry → Type 0
 AreRetold entries = AllByRecursion IsRetold entries
 
@@ -62,8 +62,8 @@ pub record IsToldWell (history : History) : Type 0 where
   pub replayed : AllByRecursion IsShortEvent history
       → output_of (journal_of history) ≡ answers_text history ++ closing_text history
 
--- all that a run of the site is to write was written, the events of its entries are read back from it, and it tells
--- the history
+-- all that a run of the site is to write was written, the events of its entries are read back from it, and it says the
+-- history
 pub record PutsRun (site : PlainSite) (held held' : Option (List ℕ)) : Type 0 where
   pub history : History
   pub is_run : IsRunOf site history
@@ -71,7 +71,7 @@ pub record PutsRun (site : PlainSite) (held held' : Option (List ℕ)) : Type 0 
   pub read_back : AreReadBack history
   pub told : IsToldWell history
 
--- a proper front part of it was
+-- a proper front part of what a run of the site is to write was written
 pub record PutsPart (site : PlainSite) (held held' : Option (List ℕ)) : Type 0 where
   pub history : History
   pub is_run : IsRunOf site history
@@ -83,14 +83,14 @@ pub record WritesRun (begin left held held' : Option (List ℕ)) : Type 0 where
   pub says : Between (Says (Ok site)) begin left
   pub puts : PutsRun site held held'
 
--- or a proper front part
+-- the input was read to its end and says a site, and a proper front part of a run of it was written
 pub record WritesRunPart (begin left held held' : Option (List ℕ)) : Type 0 where
   pub site : PlainSite
   pub says : Between (Says (Ok site)) begin left
   pub puts : PutsPart site held held'
 
--- what was written, whether the source tells its bytes or not: at the end all, where the sink failed a part, and for
--- want of memory none or a part; where no run was begun, nothing
+-- what was written, whether the source gives its bytes or not: at the end all; where the sink failed a part; where
+-- there was no memory none or a part; and where no run was begun nothing
 abbrev pub RunWrites : Option (List ℕ) → Option (List ℕ) → Option (List ℕ) → Option (List ℕ)
     → Result (Unit {0}) (JobFault JsonFault Infallible) → Type 0
 RunWrites begin left held held' (Ok done) = WritesRun begin left held held'
@@ -106,8 +106,8 @@ pub record IsRunText (site : PlainSite) (text : List ℕ) : Type 0 where
   pub is_run : IsRunOf site history
   pub text_is : text ≡ run_text history
 
--- nothing is replied; what may close the output is the text of any run of the site that the input says; and an input
--- that says none is refused, for its fault
+-- the output of a plant: nothing is replied; what may close it is the text of any run of the site that the input says;
+-- and an input that says none is refused, for its fault
 abbrev pub planted : Output JsonFault
 planted =
     record {

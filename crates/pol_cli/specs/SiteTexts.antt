@@ -12,14 +12,14 @@ use Rattle.pol_replay.specs.Meanings.{is_some_line}
 use Rattle.pol_cli.specs.declared.jobs.site_text.SiteLines.{SiteLines}
 use Rattle.pol_cli.specs.declared.jobs.site_text.SiteLines.TheVariants.{Nothing, Site, Fault, More}
 
--- what the lines of a site text have told so far: nothing, where all were blank; what the one line says that isn't
+-- what the lines of a site text have said so far: nothing, where all were blank; what the one line says that isn't
 -- blank; or that there are more
 pub data Told : Type 0 where
   none_yet : Told
   one : (said : ReadResult PlainSite) → Told
   more : Told
 
--- the same, of what the code knows
+-- what the lines of a site text have said, by what the code knows
 abbrev pub lines_told : SiteLines → Told
 lines_told Nothing = none_yet
 lines_told (Site site) = one (Ok (plain_site site))
@@ -31,13 +31,13 @@ unfoldable pub line_says : Line → ReadResult PlainSite
 line_says None = here (Err TooLong)
 line_says (Some text) = site_on text
 
--- what was told, once one more line wasn't blank
+-- what the lines have said, once one more line wasn't blank
 abbrev pub after_filled : Told → Line → Told
 after_filled none_yet line = one (line_says line)
 after_filled (one said) line = more
 after_filled more line = more
 
--- what was told, once one more line was read
+-- what the lines have said, once one more line was read
 abbrev pub after_line : Told → Line → Told
 after_line so_far line = if is_some_line line then after_filled so_far line else so_far
 

@@ -84,7 +84,7 @@ pub record AuditEnds (source sink : Edges) (status : Status) : Type 0 where
   -- whatever the input: where the verdict is good, it spells a true history
   pub audits : (bytes : List ℕ) → AuditTheorem bytes
 
--- how an audit ended that tells which bytes it read
+-- how an audit ended that says which bytes it read
 pub record AttestEnds (source sink : Edges) (status : Status) : Type 0 where
   -- its output is the verdict over its input, and the size and the checksum of the input
   pub job : JobEnds attested no_refusal source sink status
@@ -102,7 +102,7 @@ pub record FindEnds (source sink : Edges) (status : Status) : Type 0 where
 pub record GuardEnds (source sink : Edges) (status : Status) : Type 0 where
   -- its output is that of its journal under its policy; an input without one is refused
   pub job : JobEnds guarded (refused_as Policy) source sink status
-  -- where the policy is refused nothing is written, whatever the source tells of its bytes
+  -- where the policy is refused nothing is written, whatever the source gives
   pub unwritten : (path : List PathPart) (fault : FaultKind) → status ≡ BadPolicy path fault →
       Keeps sink.before.bytes sink.after.bytes
   -- whatever the input: no command goes to the plant but those that the policy allows
@@ -119,7 +119,7 @@ pub record MigrationEnds (source sink : Edges) (status : Status) : Type 0 where
 pub record PlantEnds (source sink : Edges) (status : Status) : Type 0 where
   -- its output is the history of a run of the site that its input says; an input that says none is refused
   pub job : JobEnds planted (refused_as Site) source sink status
-  -- what it wrote, whether the source tells its bytes or not
+  -- what it wrote, whether the source gives its bytes or not
   pub writes : RunWrites source.before.bytes source.after.bytes sink.before.bytes sink.after.bytes job.result
   -- nothing is written but at 0, and at 4 and 5, where some may be
   pub unbegun : status ≢ Good → status ≢ WriteFault → status ≢ OutOfMemory → sink.Untouched
@@ -138,11 +138,11 @@ pub record KeptEnds {D : Type 0} (output : List PlainEvent → Output Infallible
   pub begins : BeginsOnStores disk status
   -- 10 only where the disk failed
   pub disk_cause : status ≡ DiskFault → DiskFailed disk
-  -- 11 only where it didn't, and its bytes stand for no events: the first record that isn't one stands at this place
+  -- 11 only where it didn't, and its bytes stand for no events: the first record that isn't one is at this place
   pub no_store : (place : ℕ) → status ≡ NotAStore place →
       (disk.tells.faults disk.after ≡ disk.tells.faults disk.before)
       × IfSome (disk.tells.bytes disk.after) (λ all. IsNoStore all place)
-  -- and then nothing was read or written
+  -- with 11 nothing was read or written
   pub untouched : (place : ℕ) → status ≡ NotAStore place → source.Untouched × sink.Untouched
 
 -- how a replay on a kept plant ended
@@ -202,17 +202,16 @@ pub record OperatedEnds {D : Type 0} (source sink : Edges) (ledger : Disks D) (s
   pub unsaid : (path : List PathPart) (fault : FaultKind) → status ≡ BadPolicy path fault →
       Between (λ bytes left. HasNoPolicy (record { kind = fault; path = path }) bytes)
       source.before.bytes source.after.bytes
-  -- and then nothing is written, whatever the source tells of its bytes
+  -- with 9 nothing is written, whatever the source gives
   pub unwritten : (path : List PathPart) (fault : FaultKind) → status ≡ BadPolicy path fault →
       Keeps sink.before.bytes sink.after.bytes
   -- 10 only where the disk failed
   pub disk_cause : status ≡ DiskFault → DiskFailed ledger
-  -- 12 only where it didn't, and its bytes stand for no items: the first record that doesn't follow stands at this
-  -- place
+  -- 12 only where it didn't, and its bytes stand for no items: the first record that doesn't follow is at this place
   pub no_ledger : (place : ℕ) → status ≡ NotALedger place →
       (ledger.tells.faults ledger.after ≡ ledger.tells.faults ledger.before)
       × IfSome (ledger.tells.bytes ledger.after) (λ all. of_items.IsNoStore ledger_work all place)
-  -- and then nothing was read or written
+  -- with 12 nothing was read or written
   pub untouched : (place : ℕ) → status ≡ NotALedger place → source.Untouched × sink.Untouched
 
 -- how an operated plant ended
@@ -272,12 +271,12 @@ AskForDiskOf words _ = Unit {0}
 
 -- Which status comes where the words mean a task, and where they mean none.
 pub record GoesByWords (words : List (List ℕ)) (source sink : Edges) (status : Status) : Type 0 where
-  -- one other than 2 and 5 comes only where they mean a task
+  -- a status other than 2 and 5 comes only where the words mean a task
   pub meant : status ≢ BadWords → status ≢ OutOfMemory → (task : Task) × Means words task
-  -- 2 comes only where they mean none
+  -- 2 comes only where the words mean no task
   pub bad_words : status ≡ BadWords → (task : Task) → Means words task → ⊥
-  -- where they mean none 2 comes, or 5 for want of memory, and source and sink are as they were
+  -- where they mean none 2 comes, or 5 without memory, and source and sink are as they were
   pub refused : ((task : Task) → Means words task → ⊥) →
       ((status ≡ BadWords) ⊎ (status ≡ OutOfMemory)) × source.Untouched × sink.Untouched
-  -- 10, 11 and 12 come only where they ask for a job on the disk of which these tell, and 13 never
+  -- 10, 11 and 12 come only where the words ask for a job on the disk that these are about, and 13 never
   pub of_disk : AskForDiskOf words status

@@ -11,7 +11,7 @@ pub record Edges : Type 1 where
   pub after : Edge
   pub Untouched : Type 0
 
--- those of one whose kind tells this
+-- the source or sink of a kind by which its bytes and its faults are known
 abbrev pub edges : {T : Type 0} → (T → Option (List ℕ)) → (T → ℕ) → T → T → Edges
 edges bytes faults before after =
     record {
@@ -29,19 +29,19 @@ pub data File : Type 1 where
   no_file : File
   a_file : Edges → File
 
--- the one of a source whose kind tells this, if there is one
+-- the file of a source of a kind by which its bytes and its faults are known, if there is one
 abbrev pub file_of : {F : Type 0} → (F → Option (List ℕ)) → (F → ℕ) → Option F → Option F → File
 file_of bytes faults None after = no_file
 file_of bytes faults (Some before) None = no_file
 file_of bytes faults (Some before) (Some after) = a_file (edges bytes faults before after)
 
--- a disk, and what its kind tells
+-- a disk, and what its kind makes known
 pub record Disks (D : Type 0) : Type 1 where
   pub tells : Telling D
   pub before : D
   pub after : D
 
--- the same, by all that the kind tells
+-- a disk, by all that its kind makes known
 abbrev pub disks : {D : Type 0} → (D → Option (List ℕ)) → (D → List ℕ → Type 0) → (D → ℕ)
     → (D → ℕ → List ℕ → Type 0) → (D → ℕ) → D → D → Disks D
 disks bytes images moment left_since faults before after =

@@ -1,4 +1,5 @@
-//! The jobs of `pol`: from words, a source and a sink to a status. The program is a thin `main` over `top`.
+//! The command line of `pol`: it does the job that the words ask for, from a source to a sink, and ends with a status.
+//! The program is a thin `main` over `top`.
 //!
 //! It knows nothing of how an answer is found. `top` says how the task ended that its words mean, by a record for each
 //! task (`specs/Tasks.antt`: on status 0 the output is the defined output of the input, and what holds of such an

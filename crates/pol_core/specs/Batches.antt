@@ -51,7 +51,7 @@ abbrev pub IsRun : List ℕ → Option PlainRun → History → History → Type
 IsRun batch None past recipes = past ≡ []
 IsRun batch (Some run) past recipes = RunKeeps batch run past recipes
 
--- each batch has so
+-- the runs keep of each batch what looking back gives
 abbrev pub RunsMirror : List (List ℕ × PlainRun) → History → Type 0
 RunsMirror runs history =
     (batch : List ℕ) → IsRun batch (lookup (bytes_eq batch) runs) (past_of_batch batch history) (recipes history)
@@ -61,7 +61,7 @@ abbrev pub freed_if : {T : Type 0} → Option Outcome → List ℕ → Option (R
 freed_if None batch row = row
 freed_if (Some outcome) batch row = option_map (freed_from batch) row
 
--- one run is this one afterwards, and no other has changed
+-- the batch has this run afterwards, and no other run has changed
 abbrev pub ChangesRun : List ℕ → PlainRun → List (List ℕ × PlainRun) → List (List ℕ × PlainRun) → Type 0
 ChangesRun batch after old new =
     (other : List ℕ) → lookup (bytes_eq other) new
@@ -75,14 +75,14 @@ pub record Settles (next : Next) (old new : PlainRun) : Type 0 where
   pub freeze_is : new.freeze ≡ old.freeze
   pub outcome_is : new.outcome ≡ option_or (closing_in next) old.outcome
 
--- the run of this batch has done so, and no other run has changed
+-- the run of this batch has done what comes next, and no other run has changed
 pub record SettlesOne (batch : List ℕ) (next : Next) (run : PlainRun)
     (old new : List (List ℕ × PlainRun)) : Type 0 where
   pub after : PlainRun
   pub settles : Settles next run after
   pub runs : ChangesRun batch after old new
 
--- the run was frozen so
+-- the run was frozen, with its services held or not
 pub record Freezes (hold : Bool) (old new : PlainRun) : Type 0 where
   pub log : (log : List LogEntry) → Follows old log → Follows new log
   pub asked : Asks new []
@@ -90,14 +90,14 @@ pub record Freezes (hold : Bool) (old new : PlainRun) : Type 0 where
   pub freeze_is : new.freeze ≡ frozen_as hold
   pub outcome_is : new.outcome ≡ old.outcome
 
--- so is the run of this batch, and no other run has changed
+-- the run of this batch was frozen, and no other run has changed
 pub record FreezesOne (batch : List ℕ) (hold : Bool) (run : PlainRun)
     (old new : List (List ℕ × PlainRun)) : Type 0 where
   pub after : PlainRun
   pub freezes : Freezes hold run after
   pub runs : ChangesRun batch after old new
 
--- the run was to be stopped, which was new or not, and isn't frozen any more
+-- the run was asked to stop, which is new unless it broke or was asked before, and isn't frozen any more
 pub record Stops (is_new : Bool) (old new : PlainRun) : Type 0 where
   pub was : (log : List LogEntry) → Follows old log → is_new ≡ not (has_broken log || was_stopped log)
   pub log : (log : List LogEntry) → Follows old log → Follows new (if is_new then log ++ StopAsked ∷ [] else log)
@@ -106,14 +106,14 @@ pub record Stops (is_new : Bool) (old new : PlainRun) : Type 0 where
   pub freeze_is : new.freeze ≡ Thawed
   pub outcome_is : new.outcome ≡ old.outcome
 
--- so is the run of this batch, and no other run has changed
+-- the run of this batch was asked to stop, and no other run has changed
 pub record StopsOne (batch : List ℕ) (is_new : Bool) (run : PlainRun)
     (old new : List (List ℕ × PlainRun)) : Type 0 where
   pub after : PlainRun
   pub stops : Stops is_new run after
   pub runs : ChangesRun batch after old new
 
--- it is what comes next, whatever log the run stands for
+-- this is what comes next for the run, whatever log it stands for
 abbrev pub ComesNext : Sights → Next → PlainRun → Type 0
 ComesNext seen next run = (log : List LogEntry) (asked : List (List ℕ)) → Follows run log → Asks run asked
     → next ≡ next_by (plain_chart run.chart) (freezing run.freeze asked) log seen
@@ -136,7 +136,7 @@ pub record AnswersBatch (history : History) (event : PlainEvent) (answer : Answe
   pub counted : IsCounted modules (entry_of history event ∷ history)
   pub batches : RunsMirror runs (entry_of history event ∷ history)
 
--- so it is after each history with room that the tables keep, whatever the event's stamp
+-- an event of a batch is answered as defined after each history with room that the tables keep, whatever its stamp
 abbrev pub BatchAnswers : (ℕ → PlainEvent) → Rows Slot → List (List ℕ × PlainRun) → Answer → Rows Slot →
     List (List ℕ × PlainRun) → Type 0
 BatchAnswers event old_modules old answer new_modules new =
@@ -144,7 +144,7 @@ BatchAnswers event old_modules old answer new_modules new =
     → RunsMirror old history → is_full history ≡ false
     → AnswersBatch history (event at) answer new_modules new
 
--- and so is the answer to an event of a module that looks at the runs
+-- an event of a module that looks at the runs is answered as defined after each history with room that the tables keep
 abbrev pub ModuleAnswersBeside : List (List ℕ × PlainRun) → (ℕ → PlainEvent) → Rows Slot → Answer → Rows Slot → Type 0
 ModuleAnswersBeside runs event old answer new =
     (history : History) (at : ℕ) → SeatsMirror old history → IsCounted old history → RunsMirror runs history

@@ -1,4 +1,4 @@
--- What the plant's calls answer that only look: each is found by looking back over the history.
+-- What the plant's read-only calls answer: each is found by looking back over the history.
 use Rattle.std.specs.Prelude.{ℕ, ⊤, Bool, ◌||◌, List, Option, None, Result, Ok, Err, is_none, nat_le, find}
 use Rattle.std.specs.Prelude.{option_and_then, option_map, if◌then◌else◌}
 use Rattle.std.specs.Option.{option_or}
@@ -55,7 +55,7 @@ settings_named name chart =
 abbrev pub settings_of : History → List ℕ → List ℕ → Option (List Setting)
 settings_of history batch name = option_and_then (settings_named name) (chart_of history batch)
 
--- whether a tag is docked, as looking back tells it
+-- whether a tag is docked, as looking back gives it
 abbrev pub plain_docking : Docking → modules.Docking
 plain_docking docking.Absent = modules.absent
 plain_docking (docking.Docked count) = modules.docked count
@@ -92,7 +92,7 @@ standing_by past =
 abbrev pub standing_of : History → List ℕ → Option Standing
 standing_of history batch = option_map (λ started. standing_by (past_of_batch batch history)) (start_of history batch)
 
--- what a batch was started with, as looking back tells it
+-- what a batch was started with, as looking back gives it
 abbrev pub plain_started : Started → batches.Started
 plain_started started =
     record { recipe = started.recipe; binds = record { held = started.held.now; watched = started.watched.now } }

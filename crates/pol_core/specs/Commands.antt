@@ -64,8 +64,8 @@ abbrev pub found_at : ℕ → Option Sent → Option Sent × ℕ → Option Sent
 found_at place (Some sent) later = (Some sent, place + 1)
 found_at place None later = later
 
--- the first command to the module among these entries, the oldest first, the first of which stands at the place; with
--- the place after it, or else the place after all
+-- the first command to the module among these entries, the oldest first, which begin at the place; with the place after
+-- it, or none with the place after all entries
 abbrev pub next_sent : List ℕ → ℕ → List PlainEntry → Option Sent × ℕ
 next_sent tag place [] = (None, place)
 next_sent tag place (entry ∷ later) = found_at place (sent_to tag entry) (next_sent tag (place + 1) later)

@@ -28,7 +28,7 @@ pub record GoesAway (ticket : ℕ) (old new : Slot) : Type 0 where
   pub description : slot_description new ≡ slot_description old
   pub unreported : IsUnreported new
 
--- the table then
+-- the table after the module of the tag went away under the ticket
 pub record SendsAway (tag : List ℕ) (ticket : ℕ) (slot : Slot) (old new : Rows Slot) : Type 0 where
   pub after : Slot
   pub goes : GoesAway ticket slot after
@@ -38,14 +38,14 @@ pub record SendsAway (tag : List ℕ) (ticket : ℕ) (slot : Slot) (old new : Ro
 abbrev pub HaveBegunFew : Rows Slot → Type 0
 HaveBegunFew rows = (tag : List ℕ) (slot : Slot) → part_of tag rows ≡ Some slot → slot_begins slot < 4294967295
 
--- what of its chart the run of a batch doesn't find in the description, for the role that the tag plays
+-- what the chart of a batch's run asks for and the description lacks, for the role that the tag plays
 abbrev pub run_lacks : List ℕ → PlainDescription → List ℕ → PlainRun → Option Rule
 run_lacks tag description batch run =
     option_map (HeldBack batch)
     (option_and_then (λ role. option_map (missing_by role) (cover_fault (plain_chart run.chart) role description))
     (bound_role run.binds tag))
 
--- the same of the batch, if it has a run
+-- what the chart of the batch asks for and the description lacks, for the role that the tag plays; none without a run
 abbrev pub lacks : List (List ℕ × PlainRun) → List ℕ → PlainDescription → List ℕ → Option Rule
 lacks runs tag description batch =
     option_and_then (run_lacks tag description batch) (lookup (bytes_eq batch) runs)

@@ -33,7 +33,7 @@ sight_unready tag service sight.Unreported = Some (NotReported tag service)
 sight_unready tag service (sight.Is view) =
     when (not (is_idle view.control.state)) (NotIdle tag service view.control.state)
 
--- the service of a step of the role is so
+-- the service of a step of the role wasn't reported, or isn't idle
 abbrev pub step_unready : Slot → List ℕ → List ℕ → PlainStep → Option Rule
 step_unready slot tag role step =
     if same_name step.role role then sight_unready tag step.service (slot_sight slot step.service) else None
@@ -51,7 +51,7 @@ slot_rule chart role tag slot =
     (option_or (option_map (cover_rule role) (cover_fault chart role (slot_description slot)))
     (first_unready slot tag role chart.root))
 
--- or there is no module
+-- what is wrong with the module of a tag for a role, or that there is none
 abbrev pub part_rule : PlainChart → List ℕ → List ℕ → Option Slot → Option Rule
 part_rule chart role tag None = Some (NoModule tag)
 part_rule chart role tag (Some slot) = slot_rule chart role tag slot
@@ -60,7 +60,7 @@ part_rule chart role tag (Some slot) = slot_rule chart role tag slot
 abbrev pub role_rule : Rows Slot → PlainChart → List ℕ → Option (List ℕ) → Option Rule
 role_rule rows chart role tag = option_and_then (λ tag. part_rule chart role tag (part_of tag rows)) tag
 
--- the first of these over the roles
+-- the first thing that is wrong with a module, over the roles
 abbrev pub table_unfit : Rows Slot → PlainChart → List Bind → List (List ℕ) → Option Rule
 table_unfit rows chart binds roles = first_of (map (λ role. role_rule rows chart role (bound_tag binds role)) roles)
 
@@ -68,11 +68,11 @@ table_unfit rows chart binds roles = first_of (map (λ role. role_rule rows char
 abbrev pub tag_busy : Rows Slot → Option (List ℕ) → Option Rule
 tag_busy rows tag = option_and_then (λ tag. busy_module tag (holder_of tag rows)) tag
 
--- the first of these over the roles
+-- the first module that is held, over the roles
 abbrev pub table_busy : Rows Slot → List Bind → List (List ℕ) → Option Rule
 table_busy rows binds roles = first_of (map (λ role. tag_busy rows (bound_tag binds role)) roles)
 
--- all rules of the binds and the modules in their order
+-- the first rule of a start that its binds and its modules break
 abbrev pub bind_rule : Rows Slot → PlainChart → PlainAllocation → Option Rule
 bind_rule rows chart binds =
     option_or (role_unbound (given binds) (role_names chart))
@@ -82,7 +82,7 @@ bind_rule rows chart binds =
     (option_or (table_unfit rows chart (given binds) (role_names chart))
     (table_busy rows binds.held (role_names chart))))))
 
--- all that the tables say against a start of a recipe with this chart
+-- the first rule that the tables say against a start of a recipe with this chart
 abbrev pub chart_rule : Rows Slot → List (List ℕ × PlainRun) → List ℕ → PlainAllocation → PlainChart → Option Rule
 chart_rule rows runs batch binds chart =
     option_or (when (is_some (lookup (bytes_eq batch) runs)) BatchKnown)

@@ -16,7 +16,7 @@ use Rattle.pol_core.specs.Batches.{RunsMirror}
 use Rattle.pol_core.specs.Recipes.{RecipesMirror}
 use Rattle.pol_core.specs.Seats.{SeatsMirror, IsCounted}
 
--- each tag and each batch has in the tables what looking back gives, as many modules are there, and the runs stand in
+-- the tables have of each tag, batch and recipe what looking back gives, as many modules as are there, and the runs in
 -- the order of their starts
 pub record Mirrors {Z : Type 0} (rows : Rows Slot) (runs : List (List ℕ × PlainRun))
     (known : List (List ℕ × Arc Chart Z)) (history : History) : Type 0 where

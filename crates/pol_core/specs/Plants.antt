@@ -13,7 +13,7 @@ pub record PlainPlant : Type 0 where
 abbrev pub plant_history : PlainPlant → History
 plant_history plant = plain_history plant.entries
 
--- the event is of a kind that takes no memory where the history has room: all but these four
+-- the event is of a kind that takes no memory where the history has room: any but Plug, Recipe, Start and ExchangeEnd
 abbrev pub is_spared : PlainEvent → Bool
 is_spared (plug at tag description) = false
 is_spared (recipe at name chart) = false

@@ -30,7 +30,7 @@ recipe_brought _ = None
 abbrev pub names_in : History → List (List ℕ)
 names_in recipes = reverse (filter_map (λ entry. recipe_brought entry.event) recipes)
 
--- each name has the chart that the accepted recipes bring, there are as many, and they stand in their order
+-- each name has the chart that the accepted recipes bring, and there are as many names, in the order of these recipes
 pub record RecipesMirror {Z : Type 0} (known : List (List ℕ × Arc Chart Z)) (history : History) : Type 0 where
   pub named : (name : List ℕ) → option_map (λ (chart : Arc Chart Z). plain_chart chart.value)
       (lookup (bytes_eq name) known) ≡ chart_named name (recipes history)
@@ -46,7 +46,7 @@ pub record AnswersRecipe {Z : Type 0} (history : History) (event : PlainEvent) (
   pub names : (name : List ℕ) (chart : PlainChart) → chart_named name (recipes history) ≡ Some chart
       → chart_named name (recipes (entry_of history event ∷ history)) ≡ Some chart
 
--- so it is after each history with room that the recipes keep, whatever the event's stamp
+-- a recipe is answered as defined after each history with room that the recipes keep, whatever its stamp
 abbrev pub RecipeAnswers : {Z : Type 0} → (ℕ → PlainEvent) → List (List ℕ × Arc Chart Z) → Answer →
     List (List ℕ × Arc Chart Z) → Type 0
 RecipeAnswers event old answer new =

@@ -37,7 +37,7 @@ pub record Users : Type 0 where
   pub holder : Option (List ℕ)
   pub watchers : List (List ℕ)
 
--- those of a tag
+-- the batch that holds the module of a tag, if one does, and those that watch it
 abbrev pub users_of : History → List ℕ → Users
 users_of history tag = record { holder = holder_of history tag; watchers = watchers_of history tag }
 
@@ -58,16 +58,16 @@ abbrev pub IsSeated : List ℕ → Option (Row Slot) → History → Users → T
 IsSeated tag None past users = IsEmpty past users
 IsSeated tag (Some row) past users = IsTaken tag row past users
 
--- each tag has so
+-- the table has of each tag what looking back gives
 abbrev pub SeatsMirror : Rows Slot → History → Type 0
 SeatsMirror rows history = (tag : List ℕ) → IsSeated tag (look tag rows) (past tag history) (users_of history tag)
 
--- done, unless a rule refuses it
+-- the answer Done, unless a rule refuses the event
 abbrev pub done_or_refused : Result ⊤ Rule → Answer
 done_or_refused (Ok done) = Done
 done_or_refused (Err rule) = Refused rule
 
--- an entry that was done, unless a rule refuses it
+-- the answer that an entry was done, unless a rule refuses the event
 abbrev pub asked_answer : Result LogEntry Rule → Answer
 asked_answer (Ok entry) = Did entry
 asked_answer (Err rule) = Refused rule
@@ -81,7 +81,7 @@ asked_by tag service command (Err rule) = Err rule
 abbrev pub slot_asked : Slot → List ℕ → List ℕ → Command → Result LogEntry Rule
 slot_asked slot tag service command = asked_by tag service command (reported_view slot service)
 
--- no tag is there twice
+-- no tag is listed twice
 abbrev pub AreOnce : List (List ℕ) → Type 0
 AreOnce [] = Unit {0}
 AreOnce (tag ∷ tags) = (is_among tags tag ≡ false) × AreOnce tags
@@ -98,7 +98,7 @@ pub record AnswersModule (history : History) (event : PlainEvent) (answer : Answ
   pub seats : SeatsMirror rows (entry_of history event ∷ history)
   pub counted : IsCounted rows (entry_of history event ∷ history)
 
--- so it is after each history with room that the table keeps, whatever the event's stamp
+-- an event of a module is answered as defined after each history with room that the table keeps, whatever its stamp
 abbrev pub ModuleAnswers : (ℕ → PlainEvent) → Rows Slot → Answer → Rows Slot → Type 0
 ModuleAnswers event old answer new =
     (history : History) (at : ℕ) → SeatsMirror old history → IsCounted old history → is_full history ≡ false

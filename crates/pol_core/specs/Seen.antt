@@ -16,7 +16,7 @@ abbrev pub slot_sees : Option Slot → List ℕ → Sight
 slot_sees None service = sight.Unreported
 slot_sees (Some slot) service = slot_sight slot service
 
--- what is seen of a variable
+-- what is seen of a variable of this slot, if there is one
 abbrev pub slot_reads : Option Slot → List ℕ → ReadingSight
 slot_reads None name = reading_sight.Unreported
 slot_reads (Some slot) name = slot_reading slot name
@@ -26,7 +26,7 @@ abbrev pub tag_sees : Rows Slot → Option (List ℕ) → List ℕ → Sight
 tag_sees rows None service = sight.Unreported
 tag_sees rows (Some tag) service = slot_sees (part_of tag rows) service
 
--- what is seen of the variable of a tag, likewise
+-- what is seen of the variable of a tag, if the role has one
 abbrev pub tag_reads : Rows Slot → Option (List ℕ) → List ℕ → ReadingSight
 tag_reads rows None name = reading_sight.Unreported
 tag_reads rows (Some tag) name = slot_reads (part_of tag rows) name

@@ -14,7 +14,8 @@ use Rattle.pol_history.specs.Looking.{History, past, past_of_batch, recipes}
 use Rattle.pol_runs.specs.Waits.{waits_by}
 use Rattle.pol_core.specs.declared.steps.ActiveStep.{ActiveStep}
 
--- a step that runs, with the tag of the module that plays its role; a role without one stands for itself
+-- a step that runs, with the tag of the module that plays its role; where there is none, with the role's name as the
+-- tag
 abbrev pub bound_step : List Bind → RunningStep → ActiveStep
 bound_step binds running =
     record {

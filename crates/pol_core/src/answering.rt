@@ -24,7 +24,7 @@ use pol_table::Table;
 use std::alloc::{AllocError, Global};
 use std::sync::Arc;
 
-/// Answers an event by the tables, and changes them as the event does. AllocError where memory is wanting; then what
+/// Answers an event by the tables, and changes them as the event does. AllocError where there is no memory; then what
 /// they keep is as it was. What each kind of event costs:
 ///
 /// - Report, Variable, Desk, ExchangeCancel: the tag and the service or variable are found by their hashes.

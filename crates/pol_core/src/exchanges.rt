@@ -199,7 +199,7 @@ pub fn end_rule(
 }
 
 // Docks another module in place of the one that is away, unless the ticket is wrong or this rule holds the module back.
-// AllocError where memory is wanting; then, as after a refusal, the slot is unchanged.
+// AllocError where there is no memory; then, as after a refusal, the slot is unchanged.
 fn dock_again(
     slot: &mut Slot,
     ticket: u32,
@@ -223,8 +223,8 @@ fn dock_again(
     }
 }
 
-/// Another module comes in place of the one that is away. AllocError where memory is wanting; then nothing that is seen
-/// changes.
+/// Another module comes in place of the one that is away. AllocError where there is no memory; then nothing that is
+/// seen changes.
 pub fn exchange_end(
     modules: &mut Table<Slot>,
     runs: &IndexMap<Name, Run>,

@@ -1,4 +1,4 @@
-//! The plant: everything that happened, what each event is answered, and tables of what that comes to.
+//! The plant: the history of all events with their answers, and tables of the state that they lead to.
 //!
 //! Contracts see a `Plant` as its entries and the number of further entries that it takes without memory
 //! (`specs/Plants.antt`). `Plant::apply` answers what `pol_history` defines, and appends the event with its answer; it

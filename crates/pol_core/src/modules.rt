@@ -34,7 +34,7 @@ pub fn done_or_refused(refused: Result<(), Rule>) -> Answer
     }
 }
 
-/// A module is plugged. AllocError where memory is wanting; then the table is as it was.
+/// A module is plugged. AllocError where there is no memory; then the table is as it was.
 pub fn plug(
     alloc: Global,
     modules: &mut Table<Slot>,

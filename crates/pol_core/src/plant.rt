@@ -42,7 +42,7 @@ use std::alloc::{AllocError, Global};
 use std::marker::Model;
 use std::sync::Arc;
 
-/// A plant: everything that happened, each event with its answer, and tables of what that comes to.
+/// A plant: the history of all events with their answers, and tables of the state that they lead to.
 #[derive(Drop)]
 pub struct Plant {
     alloc: Global,
@@ -120,7 +120,7 @@ impl Plant {
     ///
     /// # Errors
     ///
-    /// AllocError where memory is wanting; then `spare` isn't lower than before.
+    /// AllocError where there is no memory; then `spare` isn't lower than before.
     pub fn reserve(&mut self, more: u32) -> Result<(), AllocError>
         ensures entries { self.new.entries ≡ self.old.entries }
         ensures ok { OnOk result (more ≤ self.new.spare) }
@@ -139,7 +139,7 @@ impl Plant {
     ///
     /// # Errors
     ///
-    /// Where memory is wanting the event is handed back with AllocError, the plant is as it was, and `spare` isn't
+    /// Where there is no memory the event is handed back with AllocError, the plant is as it was, and `spare` isn't
     /// lower.
     pub fn apply(&mut self, event: Event) -> Result<Answer, (Event, AllocError)>
         requires orderly { IsTrue (is_orderly (plain_event event)) }
@@ -269,7 +269,7 @@ impl Plant {
     ///
     /// # Errors
     ///
-    /// AllocError where memory is wanting for them.
+    /// AllocError where there is no memory for them.
     pub fn tags(&self, alloc: Global) -> Result<Vec<Name>, AllocError>
         ensures { IfOk result (λ tags. tags.items ≡ in_byte_order (present_tags (plant_history self.now))) }
     {
@@ -365,7 +365,7 @@ impl Plant {
     ///
     /// # Errors
     ///
-    /// AllocError where memory is wanting for them.
+    /// AllocError where there is no memory for them.
     pub fn active_steps(&self, alloc: Global, batch: Name) -> Result<Vec<ActiveStep>, AllocError>
         ensures { IfOk result (λ steps. steps.items ≡ active_of (plant_history self.now) batch) }
     {
@@ -377,7 +377,7 @@ impl Plant {
     ///
     /// # Errors
     ///
-    /// AllocError where memory is wanting for them.
+    /// AllocError where there is no memory for them.
     pub fn waiting_nodes(&self, alloc: Global, batch: Name) -> Result<Vec<WaitingNode>, AllocError>
         ensures { IfOk result (λ nodes. nodes.items ≡ waits_of (plant_history self.now) batch) }
     {

@@ -36,7 +36,7 @@ fn keep(
     }
 }
 
-/// A recipe is made known. AllocError where memory is wanting; then the recipes are as they were.
+/// A recipe is made known. AllocError where there is no memory; then the recipes are as they were.
 pub fn recipe(
     recipes: &mut IndexMap<Name, Arc<Chart>>,
     name: Name,

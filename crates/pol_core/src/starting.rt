@@ -97,7 +97,7 @@ fn enter(runs: &mut IndexMap<Name, Run>, batch: Name, run: Run)
     }
 }
 
-// Lets the batch watch all of these tags, which are there and distinct. AllocError where memory is wanting; then none.
+// Lets the batch watch all of these tags, which are there and distinct. AllocError where there is no memory; then none.
 fn watch(modules: &mut Table<Slot>, tags: &[Name], batch: Name) -> Result<(), AllocError>
     requires there { (tag : List ℕ) → is_among tags.now tag ≡ true → IsSome (look tag modules.old) }
     requires distinct { IsDistinct bytes_eq tags.now }
@@ -121,7 +121,7 @@ fn hold(modules: &mut Table<Slot>, tags: &[Name], batch: Name)
 }
 
 /// Starts a batch of this chart on these modules, which are there and free.
-/// AllocError where memory is wanting; then all is as it was.
+/// AllocError where there is no memory; then all is as it was.
 fn begin(
     alloc: Global,
     modules: &mut Table<Slot>,
@@ -194,7 +194,7 @@ pub fn start_rule(
     }
 }
 
-/// A batch of a recipe is started. AllocError where memory is wanting; then all is as it was.
+/// A batch of a recipe is started. AllocError where there is no memory; then all is as it was.
 pub fn start(
     alloc: Global,
     modules: &mut Table<Slot>,

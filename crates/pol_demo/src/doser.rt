@@ -84,7 +84,7 @@ pub fn doser(alloc: Global) -> Result<Description, AllocError>
     })
 }
 
-// The requirement of the first major version. Its text is one, so only memory can be wanting.
+// The requirement of the first major version. Its text is a requirement, so the only fault is that there is no memory.
 fn requirement(alloc: Global) -> Result<VersionReq, semver::Error>
     ensures read { IfOk result (IsReadTo (codes "^1")) }
     ensures wanting { IfErr result (λ error. error ≡ memory_error) }

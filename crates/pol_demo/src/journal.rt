@@ -136,7 +136,7 @@ fn start(alloc: Global, teller: &mut Teller, batch: Name, tag: Name) -> Result<(
     })
 }
 
-// Tells the level of a module.
+// Reports the level of a module.
 #[tactic(auto, unfolding(crate::specs::Telling::line_told))]
 fn tell_level(teller: &mut Teller, tag: Name, level: Name, value: u32) -> Result<(), AllocError>
     requires named { level ≡ codes "level" }
@@ -152,7 +152,7 @@ fn tell_level(teller: &mut Teller, tag: Name, level: Name, value: u32) -> Result
     })
 }
 
-// Tells the values of a module, the next ones of the sequence.
+// Reports the values of a module, the next ones of the sequence.
 fn measure(teller: &mut Teller, sequence: &mut Sequence, tag: Name) -> Result<(), AllocError>
     requires { teller.old.at + VALUES < 2 ^ 64 }
     ensures told { OnOk result (told_by teller.new
@@ -262,11 +262,11 @@ fn run_batches(alloc: Global, teller: &mut Teller, seed: u32) -> Result<(), Allo
     Ok(())
 }
 
-/// Tells the demo journal of a seed to a plant.
+/// Applies the demo journal of a seed to a plant.
 ///
 /// # Errors
 ///
-/// AllocError where memory is wanting.
+/// AllocError where there is no memory.
 pub fn tell_journal(alloc: Global, seed: u32) -> Result<Teller, AllocError>
     ensures { IfOk result (λ teller. plain_history teller.plant.entries ≡ history_after [] (demo_events seed)) }
 {

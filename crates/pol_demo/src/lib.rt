@@ -1,4 +1,5 @@
-//! The demo journal of a seed: it is made event by event and told to a plant, and the history is summed up in one line.
+//! The demo: a journal is made from a seed, event by event, and applied to a plant, and the history is summed up in one
+//! line.
 //!
 //! Eight modules are docked, and up to 120 batches run on them, one after another, with 1,000 values each. It knows
 //! nothing of lines that are read, of words or of sinks. Its main contract is that of `demo_line`: the line is the

@@ -8,7 +8,7 @@ const FACTOR: u64 = 6_364_136_223_846_793_005;
 
 const ADDEND: u64 = 1_442_695_040_888_963_407;
 
-/// A linear congruential sequence. Contracts see it as the number that it stands at.
+/// A linear congruential sequence. Contracts see it as its current number.
 #[derive(Drop)]
 pub struct Sequence {
     number: u64,
@@ -23,7 +23,7 @@ impl Model for Sequence {
 }
 
 impl Sequence {
-    /// It stands at its seed.
+    /// A sequence whose current number is its seed.
     pub fn new(seed: u32) -> Sequence
         ensures { result ≡ seed }
     {

@@ -66,7 +66,7 @@ pub fn summary_line(alloc: Global, summary: &Summary) -> Result<Vec<u8>, AllocEr
 ///
 /// # Errors
 ///
-/// AllocError where memory is wanting.
+/// AllocError where there is no memory.
 pub fn demo_line(alloc: Global, seed: u32) -> Result<Vec<u8>, AllocError>
     ensures { IfOk result (λ line. line.items ≡ demo_output seed) }
 {

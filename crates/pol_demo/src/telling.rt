@@ -1,4 +1,4 @@
-//! A plant to which a journal is told.
+//! A plant to which a journal is applied, event by event.
 ghost use Rattle.std.specs.Prelude.{◌≡◌, ◌+◌, ◌≤◌, ◌<◌, ◌^◌, [], IfOk, IsTrue, OnErr, OnOk};
 ghost use Rattle.pol_events.specs.Events.{plain_event};
 ghost use Rattle.pol_events.specs.Orderly.{is_orderly};
@@ -8,7 +8,7 @@ use pol_core::Plant;
 use pol_events::Event;
 use std::alloc::{AllocError, Global};
 
-/// A plant to which a journal is told.
+/// A plant to which a journal is applied, with the number of the next line.
 #[derive(Drop)]
 pub struct Teller {
     pub plant: Plant,
@@ -17,7 +17,7 @@ pub struct Teller {
 }
 
 impl Teller {
-    /// Nothing was told yet. There is room for so many lines, unless memory is wanting.
+    /// A plant to which nothing was applied yet. There is room for so many lines, unless there is no memory.
     pub fn new(alloc: Global, lines: u32) -> Result<Teller, AllocError>
         ensures nothing { IfOk result (λ teller. told_by teller ≡ record { history = []; at = 1 }) }
         ensures room { IfOk result (λ teller. lines ≤ teller.plant.spare) }
@@ -27,7 +27,7 @@ impl Teller {
         Ok(Teller { plant, at: 1 })
     }
 
-    /// Tells an event as the next line; where memory is wanting, nothing is told.
+    /// Applies an event as the next line; where there is no memory, nothing is applied.
     pub fn tell(&mut self, event: Event) -> Result<(), AllocError>
         requires orderly { IsTrue (is_orderly (plain_event event)) }
         requires room { self.old.at + 1 < 2 ^ 64 }

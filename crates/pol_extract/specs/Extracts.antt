@@ -33,12 +33,12 @@ pub record IsJournal (extent : Extent) (bytes text : List ℕ) : Type 0 where
 abbrev pub Extracts : Extent → Option (List ℕ) → Option (List ℕ) → List ℕ → List ℕ → Type 0
 Extracts extent held held' bytes left = (left ≡ []) × Closes (IsJournal extent bytes) held held'
 
--- the same, but only a proper front part of the journal was written
+-- the source was read to its end, and only a proper front part of the journal of its ledger was written
 abbrev pub ExtractsPart : Extent → Option (List ℕ) → Option (List ℕ) → List ℕ → List ℕ → Type 0
 ExtractsPart extent held held' bytes left = (left ≡ []) × ClosesPart (IsJournal extent bytes) held held'
 
--- the source was read to its end, and it gave the bytes of no ledger: the first record that doesn't follow stands at
--- this place
+-- the source was read to its end, and it gave the bytes of no ledger: the first record that doesn't follow is at this
+-- place
 abbrev pub GivesNoLedger : ℕ → List ℕ → List ℕ → Type 0
 GivesNoLedger place bytes left = (left ≡ []) × IsNoStore ledger_work bytes place
 

@@ -16,7 +16,7 @@ pub enum ExtractFault {
     Memory,
     /// The bytes are those of no ledger; nothing was written.
     NotALedger {
-        /// The place of the first record that doesn't follow: how many bytes stand before it.
+        /// The place of the first record that doesn't follow: how many bytes come before it.
         place: u64,
     },
 }

@@ -12,7 +12,7 @@ abbrev pub bindings_text : History → List ℕ
 bindings_text history =
     line_text (under_key (codes "bindings") (offers_of (docked_candidates_of history) (recipes_of history)))
 
--- where each role of a recipe has a step, it is offered what a finder tells of it
+-- Where each role of a recipe has a step, the recipe is offered what a finder writes of it.
 abbrev pub OffersAreTold : Type 0
 OffersAreTold =
     (history : History) (recipe : PlainRecipe) → is_all_stepped recipe.chart ≡ true

@@ -21,11 +21,11 @@ is_seen_idle Away = false
 is_seen_idle Unreported = false
 is_seen_idle (Is view) = is_idle view.control.state
 
--- the service of the tag is seen so
+-- the service of the tag is seen, and is idle
 abbrev pub is_idle_at : History → List ℕ → List ℕ → Bool
 is_idle_at history tag service = is_seen_idle (module_sight (docking_of history tag) (view_of history tag service))
 
--- those services of a description that are seen so at the tag
+-- the services of a description that are idle at the tag
 abbrev pub idle_services : History → List ℕ → PlainDescription → List (List ℕ)
 idle_services history tag description =
     filter (is_idle_at history tag) (map (λ service. service.name) description.services)
@@ -45,12 +45,12 @@ abbrev pub candidate_with : History → List ℕ → PlainDescription → PlainC
 candidate_with history tag description =
     record { tag = tag; description = description; idle = idle_services history tag description }
 
--- the same, where it is free
+-- the tag as a candidate, where it is free
 abbrev pub candidate_of : History → List ℕ → Option PlainCandidate
 candidate_of history tag =
     if is_free history tag then option_map (candidate_with history tag) (description_of history tag) else None
 
--- what is made of the tags that are there, in byte order
+-- the candidates that are made of the tags that are docked or away, in byte order
 abbrev pub candidates_by : (List ℕ → Option PlainCandidate) → History → List PlainCandidate
 candidates_by make history = filter_map make (in_byte_order (present_tags history))
 
@@ -58,7 +58,7 @@ candidates_by make history = filter_map make (in_byte_order (present_tags histor
 abbrev pub candidates_of : History → List PlainCandidate
 candidates_of history = candidates_by (candidate_of history) history
 
--- those services of a description that a step could be given: of a tag that a batch holds none
+-- the services of a description that a step could be given: of a tag that a batch holds none
 abbrev pub spare_services : History → List ℕ → PlainDescription → List (List ℕ)
 spare_services history tag description =
     if is_none (holder_of history tag) then idle_services history tag description else []
@@ -68,13 +68,13 @@ abbrev pub docked_candidate_with : History → List ℕ → PlainDescription →
 docked_candidate_with history tag description =
     record { tag = tag; description = description; idle = spare_services history tag description }
 
--- the same, where it is docked, held or not
+-- the tag as a candidate to be held or watched, where it is docked, held or not
 abbrev pub docked_candidate_of : History → List ℕ → Option PlainCandidate
 docked_candidate_of history tag =
     if is_docked (docking_of history tag)
     then option_map (docked_candidate_with history tag) (description_of history tag) else None
 
--- those: the tags that are docked, in byte order
+-- the candidates to be held or watched: the tags that are docked, in byte order
 abbrev pub docked_candidates_of : History → List PlainCandidate
 docked_candidates_of history = candidates_by (docked_candidate_of history) history
 

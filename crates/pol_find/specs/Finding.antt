@@ -18,7 +18,7 @@ pub record Known : Type 0 where
   pub history : History
   pub bad : ℕ
 
--- nothing, at first
+-- what a finder knows at first: nothing
 abbrev pub nothing_known : Known
 nothing_known = record { history = []; bad = 0 }
 
@@ -26,17 +26,17 @@ nothing_known = record { history = []; bad = 0 }
 abbrev pub known_by : Finding → Known
 known_by finding = record { history = plant_history finding.plant; bad = finding.bad }
 
--- one more line at fault; the count stands still at the greatest number of 64 bits, which no input reaches
+-- one more line at fault; the count stays at the greatest number of 64 bits, which no input reaches
 abbrev pub one_more : ℕ → ℕ
 one_more bad = min (bad + 1) greatest_u64
 
--- what it knows after a line that says this
+-- what a finder knows after a line that says this
 abbrev pub after_saying : Known → LineMeaning PlainEvent → Known
 after_saying known nothing = known
 after_saying known (at_fault fault) = record known { bad = one_more known.bad }
 after_saying known (says event) = record known { history = recorded (entry_of known.history event) known.history }
 
--- what it does with each line, and at the end: it replies nothing, and closes with what is found
+-- what a finder does with each line, and at the end: it replies nothing, and closes with what is found
 abbrev pub find_work : LineWork Known Infallible
 find_work =
     record {
@@ -53,11 +53,11 @@ is_at_fault (blank piece) = false
 is_at_fault (faulty piece fault) = true
 is_at_fault (happening piece event) = false
 
--- how many lines of an input are at fault, as far as a number of 64 bits tells
+-- how many lines of an input are at fault, as far as a number of 64 bits counts them
 abbrev pub bad_lines : List ℕ → ℕ
 bad_lines bytes = min (length (filter is_at_fault (input_lines_of bytes))) greatest_u64
 
--- its output: nothing for the lines, and then what is found after all of them
+-- the output of a finder: nothing for the lines, and then what is found after all of them
 abbrev pub found : Output Infallible
 found =
     record {

@@ -1,4 +1,4 @@
--- What a finder writes after a history: what is told of each recipe, and how many lines were at fault.
+-- What a finder writes after a history: a line for each recipe, and how many lines were at fault.
 use Rattle.std.specs.Prelude.{ℕ, ◌≡◌, List, [], ◌∷◌, ◌++◌}
 use Rattle.pol_history.specs.Looking.{History}
 use Rattle.pol_history.specs.Runs.{IsLegal, IsOrderly}
@@ -10,8 +10,7 @@ use Rattle.pol_find.specs.Lines.{bad_text}
 use Rattle.pol_find.specs.Recipes.{PlainRecipe, recipes_of}
 use Rattle.pol_find.specs.Told.{told_of}
 
--- the text is the line of what is told of the recipe, which is its least binding to the candidates, or a shortage where
--- it has none
+-- the text is the line of the recipe, which says its least binding to the candidates, or a shortage where it has none
 pub record Tells (candidates : List PlainCandidate) (recipe : PlainRecipe) (text : List ℕ) : Type 0 where
   pub is : text ≡ line_text (told_of candidates recipe)
   pub right : IsToldRightly recipe.chart candidates
@@ -33,12 +32,12 @@ TellsEach candidates (recipe ∷ recipes) text = Follows (Tells candidates recip
 abbrev pub IsFound : History → ℕ → List ℕ → Type 0
 IsFound history bad = Follows (TellsEach (candidates_of history) (recipes_of history)) (λ text. text ≡ bad_text bad)
 
--- after every legal and orderly history there is something to be found: a recipe that has no binding has a shortage
+-- After every legal and orderly history the finder has an output: a recipe that has no binding has a shortage.
 abbrev pub AreFound : Type 0
 AreFound =
     (history : History) (bad : ℕ) → IsLegal history → IsOrderly history → (text : List ℕ) × IsFound history bad text
 
--- and there is one thing alone
+-- After every history the finder has at most one output.
 abbrev pub FindingsAreOne : Type 0
 FindingsAreOne =
     (history : History) (bad : ℕ) (one other : List ℕ) → IsFound history bad one → IsFound history bad other

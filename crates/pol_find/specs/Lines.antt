@@ -15,14 +15,14 @@ unfoldable pub bind_object : Data → List ℕ → Data
 bind_object binds recipe =
     object (member (codes "bind") binds (member (codes "recipe") (string recipe) no_members))
 
--- the same, with what is held and, where anything is, what is watched
+-- a recipe that can be started, with what is held and, where anything is, what is watched
 unfoldable pub offer_object : PlainAllocation → List ℕ → Data
 offer_object binds recipe =
     object
     (member (codes "bind") (written_binds binds.held)
     (member (codes "recipe") (string recipe) (watch_member binds.watched)))
 
--- a recipe that can't, with these roles and these tags
+-- a recipe that can't be bound, with these roles and these tags
 unfoldable pub short_object : List ℕ → Data → Data → Data
 short_object recipe roles tags = object
     (member (codes "recipe") (string recipe)

@@ -1,4 +1,5 @@
--- What a new batch of a recipe is offered, as a function of it and of the candidates: modules to hold and to watch.
+-- What a new batch of a recipe is offered, as a function of the recipe and of the candidates: modules to hold and to
+-- watch.
 use Rattle.std.specs.Prelude.{Bool, not, List, filter, map, Option, Some, None}
 use Rattle.std.specs.List.{list_all}
 use Rattle.serde_json.specs.Data.{Data, array}
@@ -22,8 +23,8 @@ is_stepped chart bind = has_step (steps_of chart) bind.role
 abbrev pub is_all_stepped : PlainChart → Bool
 is_all_stepped chart = list_all (has_step (steps_of chart)) (role_names chart)
 
--- what a start with these binds holds and watches, in byte order of roles: it holds the modules of the roles that have a
--- step, and watches those of the others, which the chart only reads
+-- what a start with these binds holds and watches, in byte order of roles: it holds the modules of the roles that have
+-- a step, and watches those of the others, which the chart only reads
 abbrev pub allocation_of : PlainChart → List Bind → PlainAllocation
 allocation_of chart binds =
     record {
@@ -42,7 +43,7 @@ offer_with candidates recipe None =
 abbrev pub offer_of : List PlainCandidate → PlainRecipe → Data
 offer_of candidates recipe = offer_with candidates recipe (binding_of recipe.chart candidates)
 
--- those of recipes, in their order
+-- the objects of what recipes are offered, in their order
 abbrev pub offers_of : List PlainCandidate → List PlainRecipe → Data
 offers_of candidates recipes = array (items_of (map (offer_of candidates) recipes))
 

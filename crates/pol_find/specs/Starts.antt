@@ -26,7 +26,7 @@ pub record IsDone (history : History) (event : PlainEvent) : Type 0 where
   pub orderly : is_orderly event ≡ true
   pub done : answer_of history event ≡ Done
 
--- after any history each recipe starts a new batch with each of its bindings to the candidates, where there is room
+-- After any history each recipe starts a new batch with each of its bindings to the candidates, where there is room.
 abbrev pub BindingsStart : Type 0
 BindingsStart =
     (history : History) (recipe : PlainRecipe) (binds : List Bind) (at : ℕ) (batch : List ℕ) → IsLegal history
@@ -34,7 +34,7 @@ BindingsStart =
     → start_of history batch ≡ None → length (filter is_start history) < MOST_BATCHES → is_full history ≡ false
     → IsDone history (start_with at batch recipe binds)
 
--- so with the binding that is told of it
+-- After any history each recipe starts a new batch with the binding that is written of it, where there is room.
 abbrev pub ToldBindingsStart : Type 0
 ToldBindingsStart =
     (history : History) (recipe : PlainRecipe) (binds : List Bind) (at : ℕ) (batch : List ℕ) → IsLegal history
@@ -47,8 +47,8 @@ ToldBindingsStart =
 abbrev pub offered_start : ℕ → List ℕ → PlainRecipe → List Bind → PlainEvent
 offered_start at batch recipe binds = start at batch recipe.name (allocation_of recipe.chart binds)
 
--- after any history each recipe starts a new batch so, with each of its bindings to the docked candidates, where there
--- is room: what it watches may be held by another batch
+-- After any history each recipe starts a new batch with what it is offered by each of its bindings to the docked
+-- candidates, where there is room: what the batch watches may be held by another one.
 abbrev pub OffersStart : Type 0
 OffersStart =
     (history : History) (recipe : PlainRecipe) (binds : List Bind) (at : ℕ) (batch : List ℕ) → IsLegal history
@@ -57,7 +57,7 @@ OffersStart =
     → length (filter is_start history) < MOST_BATCHES → is_full history ≡ false
     → IsDone history (offered_start at batch recipe binds)
 
--- so with the one that is told in the line of the bindings
+-- After any history each recipe starts a new batch with what the line of the bindings offers, where there is room.
 abbrev pub ToldOffersStart : Type 0
 ToldOffersStart =
     (history : History) (recipe : PlainRecipe) (binds : List Bind) (at : ℕ) (batch : List ℕ) → IsLegal history

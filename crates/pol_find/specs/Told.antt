@@ -1,4 +1,4 @@
--- What is told of a recipe, as a function of it and of the candidates.
+-- What is written of a recipe, as a function of the recipe and of the candidates.
 use Rattle.std.specs.Prelude.{List, Option, Some, None}
 use Rattle.std.specs.List.{AllByRecursion}
 use Rattle.serde_json.specs.Data.{Data}
@@ -18,10 +18,10 @@ told_with candidates recipe None =
     short_object recipe.name (names_data (short_roles recipe.chart candidates))
     (names_data (short_tags recipe.chart candidates))
 
--- the object that is told of a recipe
+-- the object that is written of a recipe
 abbrev pub told_of : List PlainCandidate → PlainRecipe → Data
 told_of candidates recipe = told_with candidates recipe (binding_of recipe.chart candidates)
 
--- what is told of each of these recipes is right: the least binding, or a shortage where there is no binding
+-- what is written of each of these recipes is right: the least binding, or a shortage where there is no binding
 abbrev pub AreToldRightly : List PlainCandidate → List PlainRecipe → Type 0
 AreToldRightly candidates = AllByRecursion (λ recipe. IsToldRightly recipe.chart candidates)

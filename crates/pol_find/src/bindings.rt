@@ -84,12 +84,12 @@ fn put_line(
 }
 
 /// Puts the line of the bindings behind what a buffer holds: of each recipe of the plant, in the order in which they
-/// were made known, which modules a new batch could hold now and which it could watch, or that there are too few. A role
-/// without a step is watched, by any module that is docked. The line is a function of the plant's history.
+/// were made known, which modules a new batch could hold now and which it could watch, or that there are too few. A
+/// role without a step is watched, by any module that is docked. The line is a function of the plant's history.
 ///
 /// # Errors
 ///
-/// AllocError where memory is wanting for the line, or for what the finder needs; what the buffer held is lost then.
+/// AllocError where there is no memory for the line, or for what the finder needs; what the buffer held is lost then.
 pub fn put_bindings_line(alloc: Global, out: &mut Vec<u8>, plant: &Plant) -> Result<(), AllocError>
     ensures { OnOk result (out.new.items ≡ out.old.items ++ bindings_text (plant_history plant.now)) }
 {

@@ -73,7 +73,7 @@ fn candidate_of(alloc: Global, plant: &Plant, tag: Name) -> Result<Option<Candid
     }
 }
 
-// The same services of a tag that no batch holds; of one that a batch holds none.
+// The idle services of a tag that no batch holds; of one that a batch holds none.
 fn spare_services(
     alloc: Global,
     plant: &Plant,

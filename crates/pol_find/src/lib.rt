@@ -1,15 +1,14 @@
-//! The finder: it says of each recipe of a plant how it could be bound now.
+//! The finder: it finds for each recipe of a plant how a new batch of it could be bound now.
 //!
-//! As a job it replays a journal, and writes of each accepted recipe, in order, what is told of it: the least binding of
+//! As a job it replays a journal, and writes for each accepted recipe, in order, what it found: the least binding of
 //! its chart to the modules that are free, or a shortage where there is none; and then how many lines were at fault
-//! (`specs/Found.antt`). What is told is a function of the history (`specs/Told.antt`), and which modules are free is
-//! looked up in it (`specs/Candidates.antt`). Of a plant `put_bindings_line` tells in one line what each recipe is
+//! (`specs/Found.antt`). What it finds is a function of the history (`specs/Told.antt`), and which modules are free is
+//! looked up in it (`specs/Candidates.antt`). `put_bindings_line` writes in one line what each recipe of a plant is
 //! offered (`specs/Offers.antt`, `specs/Bindings.antt`): the same, where each role has a step (`offers_are_told`); a
 //! role without one is to be watched, by any module that is docked. It knows nothing of how a binding is found, which
-//! is `pol_match`'s. Its laws are that a start with a binding, and so with the one that is told, is done
-//! (`bindings_start`, `told_bindings_start`, `offers_start`), and that there is always one thing to be written
+//! is `pol_match`'s. Its laws are that a start with a binding, and so with the one that is written, is done
+//! (`bindings_start`, `told_bindings_start`, `offers_start`), and that there is always exactly one output
 //! (`always_found`).
-//!
 //! Tried in `pol_examples`.
 #![tactic(auto)]
 
@@ -35,14 +34,14 @@ pub fn bindings_start()
     ensures { BindingsStart }
 {}
 
-/// A new batch that is started with the binding that is told of a recipe is answered Done, where fewer than 128 batches
-/// were started and the history isn't full; and a line can say that start.
+/// A new batch that is started with the binding that is written of a recipe is answered Done, where fewer than 128
+/// batches were started and the history isn't full; and a line can say that start.
 pub fn told_bindings_start()
     ensures { ToldBindingsStart }
 {}
 
-/// So is one with a binding to the docked modules, of which it holds those whose roles have a step and watches the
-/// others, and so one with what the line of the bindings tells.
+/// A start with a binding to the docked modules, of which it holds those whose roles have a step and watches the
+/// others, is answered Done there too, and so is one with what the line of the bindings offers.
 pub fn offers_start()
     ensures each { OffersStart }
     ensures told { ToldOffersStart }
@@ -53,8 +52,8 @@ pub fn offers_are_told()
     ensures { OffersAreTold }
 {}
 
-/// After every legal and orderly history there is such an output: each recipe has a least binding, or a shortage that
-/// shows that it has none (Hall's theorem on the roles and the modules that fit them). And there is one alone.
+/// After every legal and orderly history there is exactly one output of the finder: each recipe has a least binding, or
+/// a shortage that shows that it has none (Hall's theorem on the roles and the modules that fit them).
 pub fn always_found()
     ensures some { AreFound }
     ensures one { FindingsAreOne }

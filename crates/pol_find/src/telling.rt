@@ -25,7 +25,7 @@ use pol_match::Candidate;
 use pol_record::ended_line;
 use std::alloc::{AllocError, Global};
 
-// The line of what is told of a recipe.
+// The line of what is written of a recipe.
 #[tactic(auto, using(pol_record::proofs::Tokens::line_of_tokens))]
 fn recipe_line(
     alloc: Global,

@@ -1,4 +1,4 @@
-//! What is told of a recipe.
+//! What is written of a recipe.
 ghost use Rattle.std.specs.Prelude.{◌≡◌, ◌++◌, ◌≤◌, length, OnOk};
 ghost use Rattle.mtp_codes.specs.declared.limits.TheConstants.{MOST_MODULES};
 ghost use Rattle.pol_match.specs.Bindings.{AreInOrder};
@@ -13,7 +13,7 @@ use json::Writer;
 use pol_match::{Candidate, Found, find_binding};
 use std::alloc::{AllocError, Global};
 
-/// Writes what is told of a recipe: how it can be bound to the candidates, or that it can't.
+/// Writes how a recipe can be bound to the candidates, or that it can't.
 pub(crate) fn write_told(
     alloc: Global,
     writer: &mut Writer,

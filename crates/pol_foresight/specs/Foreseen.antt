@@ -21,7 +21,7 @@ abbrev pub IsForeseen : PlainPlant → PlainEvent → Answer → Type 0
 IsForeseen plant event answer =
     is_full (plant_history plant) ≡ false → answer ≡ answer_of (plant_history plant) event
 
--- so would it, whatever its stamp
+-- the event would be answered so, whatever its stamp, if the plant's history has room
 abbrev pub IsForeseenAt : PlainPlant → (ℕ → PlainEvent) → Answer → Type 0
 IsForeseenAt plant event answer = (at : ℕ) → IsForeseen plant (event at) answer
 

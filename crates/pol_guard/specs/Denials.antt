@@ -10,7 +10,7 @@ abbrev pub rule_member : Option (List ℕ) → Members
 rule_member None = no_members
 rule_member (Some rule) = member (codes "policy") (string rule) no_members
 
--- a denial, with these members behind that it is one
+-- a denial, with these members after the one that says so
 unfoldable pub denial_object : Members → Data
 denial_object members = object (member (codes "denied") (boolean true) members)
 

@@ -22,7 +22,7 @@ use Rattle.pol_guard.specs.Lines.{GuardedLine, faulty, denied, admitted, guarded
 abbrev pub some_lines : List ℕ → List Line
 some_lines bytes = filter is_some_line (map line_met (pieces bytes))
 
--- the policy that a line says, or its first fault; one that is too long says so
+-- the policy that a line says, or its first fault; a line that is too long has that fault
 abbrev pub policy_said : Line → ReadResult PlainPolicy
 policy_said None = here (Err TooLong)
 policy_said (Some text) = policy_on text
@@ -47,11 +47,11 @@ journal_of bytes = behind_first (some_lines bytes)
 
 -- ---- what comes of a journal under a policy
 
--- what comes of each of its lines
+-- what comes of each line of a journal
 abbrev pub guarded_lines : PlainPolicy → List Line → List GuardedLine
 guarded_lines policy journal = map (guarded_line policy) journal
 
--- the events among them that aren't denied, in their order
+-- the events of lines that aren't denied, in their order
 abbrev pub admitted_in : List GuardedLine → List PlainEvent
 admitted_in [] = []
 admitted_in (faulty fault ∷ lines) = admitted_in lines
@@ -70,11 +70,11 @@ texts_with (admitted event ∷ lines) (entry ∷ entries) = answer_text entry.an
 abbrev pub admitted_under : PlainPolicy → List Line → List PlainEvent
 admitted_under policy journal = admitted_in (guarded_lines policy journal)
 
--- what is replied to it: the events that aren't denied are answered as in a run of these alone
+-- what is replied to a journal: the events that aren't denied are answered as in a run of these alone
 abbrev pub replies_under : PlainPolicy → List Line → List ℕ
 replies_under policy journal = texts_with (guarded_lines policy journal) (run_of (admitted_under policy journal))
 
--- the history that these events leave
+-- the history that the events leave that aren't denied
 abbrev pub history_under : PlainPolicy → List Line → History
 history_under policy journal = history_after [] (admitted_under policy journal)
 
@@ -85,7 +85,7 @@ abbrev pub replies_by : ReadResult PlainPolicy → List Line → List ℕ
 replies_by (Ok policy) journal = replies_under policy journal
 replies_by (Err fault) journal = []
 
--- the history that it leaves
+-- the history that the journal of an input leaves, by what is said of its policy: nothing where that is none
 abbrev pub history_by : ReadResult PlainPolicy → List Line → History
 history_by (Ok policy) journal = history_under policy journal
 history_by (Err fault) journal = []
@@ -94,7 +94,7 @@ history_by (Err fault) journal = []
 abbrev pub guarded_history : List ℕ → History
 guarded_history bytes = history_by (policy_of bytes) (journal_of bytes)
 
--- a line behind others that aren't blank is refused where it should say the policy, and has this fault
+-- a line is refused, for this fault, where it is the first that isn't blank and says no policy
 abbrev pub IsNoPolicy : List Line → Line → JsonFault → Type 0
 IsNoPolicy [] line fault = policy_said line ≡ Err fault
 IsNoPolicy (first ∷ others) line fault = ⊥

@@ -26,7 +26,7 @@ pub record Asks (line : Line) (event : PlainEvent) (request : Request) : Type 0 
   pub says : guarded_of text ≡ Ok (record { event = event; person = person })
   pub asks : asked_by event person ≡ Some request
 
--- the event stands on a line of the journal, and the policy allows what it asks there
+-- the event is on a line of the journal, and the policy allows what it asks there
 pub record IsAllowed (policy : PlainPolicy) (journal : List Line) (event : PlainEvent) : Type 0 where
   pub line : Line
   pub stands : Contains journal line
@@ -44,27 +44,28 @@ pub record IsDenied (policy : PlainPolicy) (line : Line) (rule : Option (List �
 
 -- What holds of a journal under a policy.
 pub record IsGuarded (policy : PlainPolicy) (journal : List Line) : Type 0 where
-  -- the history that it leaves is legal and its events are orderly, so that all laws of legal histories hold of it
+  -- the history that the journal leaves is legal and its events are orderly, so that all laws of legal histories hold
+  -- of it
   pub legal : IsLegal (history_under policy journal)
   pub orderly : IsOrderly (history_under policy journal)
-  -- each command of the desk in it was allowed to the person whom its line names
+  -- each command of the desk in that history was allowed to the person whom its line names
   pub allowed : (entry : PlainEntry) → Contains (history_under policy journal) entry →
       (at : ℕ) (tag service : List ℕ) (command : Command) → entry.event ≡ desk at tag service command →
       IsAllowed policy journal entry.event
   -- each denial is right, and names its rule
   pub denied : (line : Line) (rule : Option (List ℕ)) → guarded_line policy line ≡ denied rule →
       IsDenied policy line rule
-  -- taking out those of its events that concern some modules takes out just their entries
+  -- taking out those of the journal's events that concern some modules takes out just their entries
   pub removal : (tags : List (List ℕ)) →
       run_of (map (λ entry. entry.event) (entries_without tags (admitted_under policy journal)))
       ≡ entries_without tags (admitted_under policy journal)
 
--- whatever the policy of an input, all of this holds of its journal
+-- Whatever the policy of an input, all that is said of a journal under a policy holds of its journal.
 abbrev pub GuardTheorem : List ℕ → Type 0
 GuardTheorem bytes = (policy : PlainPolicy) → policy_of bytes ≡ Ok policy → IsGuarded policy (journal_of bytes)
 
--- an input is refused for the fault of its policy alone, and nothing is written then, whatever the source tells of its
--- bytes; one that isn't refused has a policy
+-- An input is refused for the fault of its policy alone, and nothing is written then, whatever the source gives; one
+-- that isn't refused has a policy.
 pub record RefusalsAreFaults : Type 0 where
   pub refused : (fault : JsonFault) (held held' : Option (List ℕ)) (bytes left : List ℕ) →
       IsRefused guarded fault held held' bytes left → (policy_of bytes ≡ Err fault) × Keeps held held'

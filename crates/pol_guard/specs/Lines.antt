@@ -32,7 +32,7 @@ pub data GuardedLine : Type 0 where
   denied : (rule : Option (List ℕ)) → GuardedLine
   admitted : (event : PlainEvent) → GuardedLine
 
--- an event is denied where the verdict on it is so
+-- an event is denied where the verdict on it denies it
 abbrev pub by_verdict : PlainEvent → Option Verdict → GuardedLine
 by_verdict event None = admitted event
 by_verdict event (Some (Allowed rule)) = admitted event

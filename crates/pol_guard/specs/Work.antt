@@ -26,7 +26,7 @@ text_after history (faulty fault) = fault_text fault
 text_after history (denied rule) = denial_text rule
 text_after history (admitted event) = answer_text (answer_of history event)
 
--- the history after it
+-- the history after a line
 abbrev pub history_with : History → GuardedLine → History
 history_with history (faulty fault) = history
 history_with history (denied rule) = history
@@ -38,13 +38,13 @@ reply_some waiting line = []
 reply_some (begun (Ok policy) history) line = text_after history (guarded_line policy line)
 reply_some (begun (Err fault) history) line = []
 
--- what is known after it
+-- what is known after a line that isn't blank
 abbrev pub after_some : Known → Line → Known
 after_some waiting line = begun (policy_said line) []
 after_some (begun (Ok policy) history) line = begun (Ok policy) (history_with history (guarded_line policy line))
 after_some (begun (Err fault) history) line = begun (Err fault) history
 
--- it is refused where it should say the policy, and has this fault
+-- a line that isn't blank is refused where it should say the policy, and has this fault
 abbrev pub RefusesSome : Known → Line → JsonFault → Type 0
 RefusesSome waiting line fault = policy_said line ≡ Err fault
 RefusesSome (begun said history) line fault = ⊥
@@ -54,7 +54,7 @@ abbrev pub said_in : Known → ReadResult PlainPolicy
 said_in waiting = here (Err Missing)
 said_in (begun said history) = said
 
--- the history since then
+-- the history since the policy was said
 abbrev pub history_in : Known → History
 history_in waiting = []
 history_in (begun said history) = history

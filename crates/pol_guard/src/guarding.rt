@@ -53,7 +53,7 @@ fn policy_said(alloc: Global, line: InputLine<'_>) -> Result<Policy, Stop<JsonFa
     }
 }
 
-// Begins with the policy that a line says, unless it is blank. The large locals of that stand here, so that the lines
+// Begins with the policy that a line says, unless it is blank. The large locals of that are here, so that the lines
 // behind the policy don't pay for them.
 #[inline(never)]
 fn begin(

@@ -1,4 +1,4 @@
-//! A journal under an operator policy, as a job over lines.
+//! The guard: a job over lines that replays a journal under an operator policy.
 //!
 //! The first line that isn't blank is the policy, the others are those of a journal, in which a command of the desk
 //! names who gives it. The policy judges each of these commands before the plant sees it: one that is denied is

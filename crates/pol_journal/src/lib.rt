@@ -1,5 +1,5 @@
-//! The journal of a history: the line of each of its events, in order, or of those alone that stay where the history is
-//! compacted (`specs/Journals.antt`).
+//! Writes the journal of a history: the line of each of its events, in order, or of those alone that stay where the
+//! history is compacted (`specs/Journals.antt`).
 //!
 //! Its main contract is that of `put_journal`. Lines are written together, many at a time. It knows nothing of disks,
 //! of how a history was read, or of why an entry stays.

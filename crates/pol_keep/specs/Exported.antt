@@ -46,7 +46,7 @@ pub record IsReplayed (events : List PlainEvent) : Type 0 where
       ≡ flat_map (λ entry. answer_text entry.answer) (run_of events) ++ closing_text (history_after [] events)
   pub fits : ¬ IsTooMuch (Some (journal_text events))
 
--- so it is with the events that an image stands for, at most 200,000, where their journal can be read
+-- The journal of the events that an image stands for, at most 200,000, is replayed so, where it can be read.
 abbrev pub JournalsAreReplayed : Type 0
 JournalsAreReplayed =
     (events : List PlainEvent) (image : List ℕ) → StandsFor events image → length events ≤ LONGEST_HISTORY

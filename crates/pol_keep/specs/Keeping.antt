@@ -14,11 +14,11 @@ abbrev pub kept_plant : {D : Type 0} → StoreState D → KeptState PlainPlant D
 kept_plant store =
     record { chronicle = store.plant; disk = store.disk; closed = store.closed; waiting = store.waiting }
 
--- what is seen of a replay on it, which knows the history of the plant
+-- what is seen of a replay on a store, which knows the history of the plant
 abbrev pub plant_state : {D : Type 0} → StoreState D → JobState History D
 plant_state store = job_state (plant_history store.plant) (kept_plant store)
 
--- It keeps, behind the events that the disk read as, those of its lines that are recorded, and begins a store with no
--- event of its own.
+-- The job keeps, behind the events that the disk read as, those of its lines that are recorded, and begins a store with
+-- no event of its own.
 abbrev pub plant_job : KeptJob PlainEvent
 plant_job = record { items_with = events_with; answers_with = answers_with; begins = false }

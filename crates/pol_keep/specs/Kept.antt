@@ -36,7 +36,7 @@ kept_events history (event ∷ events) =
 abbrev pub events_with : List PlainEvent → List (List ℕ) → List PlainEvent
 events_with old lines = old ++ kept_events (history_after [] old) (events_in (map input_line_of lines))
 
--- the answer and fault lines of some lines in that run
+-- the answer and fault lines of some lines in the run of old events and of those of the lines
 abbrev pub answers_with : List PlainEvent → List (List ℕ) → List ℕ
 answers_with old lines = answered_texts (answered_lines_after (history_after [] old) (map input_line_of lines))
 
@@ -46,7 +46,7 @@ abbrev pub kept_output : List PlainEvent → Output Infallible
 kept_output old =
     texts_of (λ bytes. answers_with old (pieces bytes)) (λ bytes. closing_text (run_with old (pieces bytes)))
 
--- ---- how it ends
+-- ---- how the job ends
 
 -- the disk failed
 abbrev pub disk_failed : DiskFailed
@@ -98,7 +98,7 @@ KeepEnds output seen source source' sink sink' (Err Disk) =
     IsUntouched source source' sink sink' ⊎ Keeps output seen source source' sink sink' (Err (job.Failed disk_failed))
 KeepEnds output seen source source' sink sink' (Err (NotAStore place)) = IsUntouched source source' sink sink'
 
--- it is no store, or there was no memory
+-- the job ended since the disk is no store, or since there was no memory
 abbrev pub IsUnopened : Result (Unit {0}) KeepFault → Type 0
 IsUnopened (Ok done) = ⊥
 IsUnopened (Err Memory) = Unit {0}

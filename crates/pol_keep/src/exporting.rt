@@ -52,8 +52,8 @@ fn put_lines<K: Sink>(alloc: Global, image: &[u8], sink: &mut K) -> Result<(), P
     put(sink, &lines)
 }
 
-// Writes the lines of the events of an open store that a journal of this extent has. A journal of all of them is made of
-// the texts in the image that was read of the store.
+// Writes the lines of the events of an open store that a journal of this extent has. A journal of all of them is made
+// of the texts in the image that was read of the store.
 fn put_extent<K: Sink, D: Disk>(
     alloc: Global,
     extent: Extent,

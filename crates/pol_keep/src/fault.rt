@@ -26,7 +26,7 @@ pub enum KeepFault {
     Disk,
     /// The disk isn't a store; nothing was read or written.
     NotAStore {
-        /// The place of the first record that isn't one: how many bytes stand before it.
+        /// The place of the first record that isn't one: how many bytes come before it.
         place: u64,
     },
 }

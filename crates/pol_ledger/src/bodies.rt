@@ -72,7 +72,7 @@ pub fn body_of(alloc: Global, item: &LedgerItem) -> Result<Vec<u8>, AllocError>
     }
 }
 
-// The build of a header's body, of which this stands behind the kind.
+// The build of a header's body, of which this follows the kind.
 fn build_of(rest: &[u8]) -> Option<Build>
     ensures { NamesBuild rest.now result }
 {
@@ -82,7 +82,7 @@ fn build_of(rest: &[u8]) -> Option<Build>
     }
 }
 
-// Who asked, and what stands behind that.
+// Who asked, and what follows that.
 fn who_of(bytes: &[u8]) -> Option<(Option<Name>, &[u8])>
     ensures some { IfSome result (λ cut. BeginsWithWho bytes.now cut.0 cut.1.now) }
     ensures none { IfNone result (BeginsWithNobody bytes.now) }

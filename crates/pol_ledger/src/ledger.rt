@@ -57,7 +57,7 @@ impl Model for Ledger {
         (record { plant = ledger.plant; names = ledger.names.items; build = ledger.build }) ledger.sum };
 }
 
-// Whether an event that is answered so stands in the history.
+// Whether an event that is answered so is in the history.
 fn is_recorded(answer: &Answer) -> bool
     ensures { result ≡ is_recorded answer.now }
 {
@@ -171,7 +171,7 @@ impl Ledger {
         }
     }
 
-    // Whether the item may stand behind its items.
+    // Whether the item may follow its items.
     fn has_place(&self, item: &LedgerItem) -> bool
         ensures { Decides result (HasPlace (items_of (ledger_state self.now)) (plain_item item.now)) }
     {

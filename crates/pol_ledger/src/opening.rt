@@ -47,8 +47,8 @@ fn begin<D: Disk>(store: &mut Kept<D, Ledger>) -> Result<(), OpenFault>
 }
 
 /// Opens a disk as a ledger, whatever a crash, a kill or a failed run left on it, and begins one where none was begun.
-/// At Ok each crash from now on leaves its items. What is said of the bytes that the disk told before holds where it
-/// tells its bytes still. Beside the ledger comes the image that was read.
+/// At Ok each crash from now on leaves its items. What is said of the bytes that the disk gave before holds where it
+/// gives them still. Beside the ledger comes the image that was read.
 ///
 /// # Errors
 ///

@@ -15,7 +15,7 @@ use Rattle.pol_live.specs.declared.turned.Placed.{Placed}
 
 -- ---- the history that a run left
 
--- it is legal and orderly, follows the site, each change in it has its command, and these made its entries
+-- the history is legal and orderly, follows the site, each change in it has its command, and these made its entries
 pub record IsRun (site : PlainSite) (entries : List Entry) (makers : List ℕ) : Type 0 where
   pub legal : IsLegal (plain_history entries)
   pub orderly : IsOrderly (plain_history entries)
@@ -38,7 +38,7 @@ made_from actor place (maker ∷ makers) (entry ∷ entries) =
 abbrev pub IsOwnPart : List ℕ → List Entry → Seated → Type 0
 IsOwnPart makers entries seat = seat.list ≡ made_from seat.actor 0 makers entries
 
--- so is each seat's
+-- each seat's list is exactly its actor's part of the history
 abbrev pub AreOwnParts : List ℕ → List Entry → List Seated → Type 0
 AreOwnParts makers entries seats = AllByRecursion (IsOwnPart makers entries) seats
 
@@ -89,7 +89,7 @@ pub record IsStrayIn (makers : List ℕ) (entries : List Entry) (actor : ℕ) (l
   pub kept_is : kept ≡ kept_at actor makers entries (least_after 0 before) place
   pub differs : kept ≢ Some given
 
--- the seat of an actor has such a list, the first such seat
+-- the list of an actor's seat has a pair that the history doesn't have for the actor there, the first such seat
 pub record IsStray (makers : List ℕ) (entries : List Entry) (seats : List Seated) (actor place : ℕ)
     (kept : Option Answer) (given : Answer) : Type 0 where
   pub seat : Seated

@@ -10,7 +10,7 @@ pub record Seated : Type 0 where
   pub actor : ℕ
   pub list : List Placed
 
--- a seat's list after a turn: what the turn made stands at its end
+-- a seat's list after a turn: what the turn made is at its end
 abbrev pub ListAfter : List Placed → List Placed → Turned → Type 0
 ListAfter before after (Made placed) = after ≡ before ++ placed ∷ []
 ListAfter before after Looked = after ≡ before
@@ -21,6 +21,6 @@ ListAfter before after Full = after ≡ before
 abbrev pub actors_of : List Seated → List ℕ
 actors_of seats = map (λ seat. seat.actor) seats
 
--- they are the seats of that many actors, in their order
+-- the seats are those of that many actors, in their order
 abbrev pub AreSeated : ℕ → List Seated → Type 0
 AreSeated count seats = actors_of seats ≡ range_with_len 0 count

@@ -23,7 +23,7 @@ use std::alloc::{AllocError, Global};
 use std::marker::{Model, PhantomData};
 use std::sync::Arc;
 
-/// A plant with its site and its clock, and where each actor of the site stands.
+/// A plant with its site and its clock, and the state of each actor of the site.
 #[derive(Drop)]
 pub(crate) struct Cast<J: Job, C: Clock> {
     pub(crate) alloc: Global,

@@ -87,7 +87,7 @@ impl<J: Job, C: Clock> Cast<J, C> {
         }
     }
 
-    // Whether the batch at a place has an event; for want of memory it may.
+    // Whether the batch at a place has an event; where there is no memory to know it, it may.
     fn has_event(&self, place: usize) -> bool {
         let (Some(batch), Some(stage)) = (self.site.batches.get(place), self.stages.get(place))
         else {

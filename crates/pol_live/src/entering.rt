@@ -76,7 +76,7 @@ pub(crate) fn enter<C: Clock>(
     Ok(Placed { place, answer })
 }
 
-/// The same for an event that takes no memory, where room was made before.
+/// Applies an event that takes no memory, with the stamp that the clock gives now, where room was made before.
 pub(crate) fn enter_spared<C: Clock>(
     plant: &mut Plant,
     by: &mut Vec<u32>,

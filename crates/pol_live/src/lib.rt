@@ -1,9 +1,9 @@
-//! The running plant: everything that a turn of an actor needs stands in one value, the locked plant, and one turn
-//! applies at most one event, stamped by the clock in that turn.
+//! The running plant: its actors take their turns on one value, the locked plant, which has everything that a turn
+//! needs. One turn applies at most one event, stamped by the clock in that turn.
 //!
 //! Contracts see a locked plant as its history, who made each entry, and its clock (`specs/Turns.antt`). By its type
 //! the history is legal and follows its site, each change has its command, and the status board shows it, whatever
-//! turns were taken. A turn that rests tells that its actor is settled.
+//! turns were taken. A turn that rests shows that its actor is settled.
 //!
 //! Tried in `live_examples`.
 #![tactic(auto)]

@@ -60,7 +60,7 @@ impl<J: Job, C: Clock> Under<J, C> {
         self.plant.watcher()
     }
 
-    // Whether no actor has a turn to make, as far as the notes tell.
+    // Whether no actor has a turn to make, as far as the notes say.
     fn is_over(&self) -> bool {
         self.ended || self.plant.is_full() || self.notes.all_rest_at(self.plant.length())
     }
@@ -256,8 +256,8 @@ impl<J: Job, C: Clock + Send> LivePlant<J, C> {
         plant
     }
 
-    /// Ends a run that threads of the caller's own drove: compares the lists of all seats, which stand in the order of
-    /// their actors, with the history that the turns left. It takes no memory.
+    /// Ends a run whose turns were taken in threads of the caller's own: compares the lists of all seats, which are in
+    /// the order of their actors, with the history that the turns left. It takes no memory.
     ///
     /// # Errors
     ///

@@ -24,8 +24,8 @@ use std::alloc::{AllocError, Global};
 use std::marker::Model;
 use std::sync::Arc;
 
-/// A plant with its site, its clock and where each actor of the site stands, and the status board that shows its
-/// history: what lies under the plant's one lock.
+/// A plant with its site, its clock, the state of each actor of the site, and the status board that shows its history:
+/// what lies under the plant's one lock.
 #[derive(Drop)]
 pub struct LockedPlant<J: Job, C: Clock> {
     cast: Cast<J, C>,
@@ -105,7 +105,7 @@ impl<J: Job, C: Clock> LockedPlant<J, C> {
     }
 
     /// Whatever turns were taken, the history is legal and orderly, follows the site, has a command for each change,
-    /// and it is told who made each entry.
+    /// and it is known who made each entry.
     pub fn is_of_a_run(&self)
         ensures { IsRun J.site self.now.entries self.now.by }
     {
@@ -113,7 +113,7 @@ impl<J: Job, C: Clock> LockedPlant<J, C> {
     }
 
     /// One turn of an actor. It applies at most one event of the actor, whose stamp the clock gives in this turn. What
-    /// the event shows stands on the status board before the turn ends.
+    /// the event shows is on the status board before the turn ends.
     ///
     /// # Errors
     ///

@@ -8,7 +8,7 @@ pub(crate) struct Notes {
 }
 
 impl Notes {
-    /// None of so many actors rests. AllocError for want of memory.
+    /// None of so many actors rests. AllocError where there is no memory.
     pub(crate) fn blank(alloc: Global, count: u32) -> Result<Notes, AllocError> {
         Ok(Notes {
             counts: vec![in alloc; None; count as usize]?,

@@ -62,7 +62,7 @@ impl<J: Job> ActorSeat<J> {
         self.list.as_slice()
     }
 
-    /// One turn of its actor. What the turn made stands at the end of the list, and is booked as one unit.
+    /// One turn of its actor. What the turn made is at the end of the list, and is booked as one unit.
     ///
     /// # Errors
     ///

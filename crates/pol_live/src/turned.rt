@@ -1,7 +1,7 @@
 //! What a turn did.
 use pol_events::Answer;
 
-/// Where an event stands in the history, counted from 0, and its answer.
+/// The place of an event in the history, counted from 0, and its answer.
 #[derive(Clone, Copy, Debug, PartialEq, Eq)]
 pub struct Placed {
     /// The place.

@@ -4,7 +4,7 @@ use Rattle.std.specs.declared.convert.Infallible.{Infallible}
 use Rattle.pol_jobs.specs.LineWork.{Line, LineWork, Output, texts_of, work_of}
 use Rattle.pol_migration.specs.Migration.{migrated, migrated_line, short_meaning_of_version_1}
 
--- what a line becomes, as a job meets it; one that is too long becomes nothing
+-- what a line becomes, as a job meets it; a line that is too long becomes nothing
 abbrev pub migrated_met : Line → List ℕ
 migrated_met None = []
 migrated_met (Some text) = migrated_line text (short_meaning_of_version_1 text)
@@ -13,6 +13,6 @@ migrated_met (Some text) = migrated_line text (short_meaning_of_version_1 text)
 abbrev pub migrating_work : LineWork ⊤ Infallible
 migrating_work = work_of (λ state line. migrated_met line) (λ state line. state) (λ state. [])
 
--- its output: what the lines become, and nothing more at the end
+-- the output of a migration: what the lines become, and nothing more at the end
 abbrev pub migrating : Output Infallible
 migrating = texts_of migrated (λ bytes. [])

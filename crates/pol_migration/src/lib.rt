@@ -1,4 +1,4 @@
-//! What a journal of version 1 becomes in version 2, and that its answers stay.
+//! The migration of a journal from version 1 to version 2, which keeps its answers.
 //!
 //! In version 2 the line of a freeze has the field `hold`, and nothing else is new. `specs/Migration.antt` defines the
 //! migrated journal; a law says that a replay of it writes what a replay of the old one wrote, without the fault lines.

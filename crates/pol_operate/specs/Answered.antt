@@ -1,4 +1,4 @@
--- What the answer to a line comes to.
+-- What the answer to a line leaves.
 use Rattle.std.specs.Prelude.{ℕ, ◌≡◌, List, ◌++◌, Option, true}
 use Rattle.std.specs.Option.{option_map}
 use Rattle.kept_jobs.specs.Keeping.{Admits}
@@ -16,7 +16,7 @@ use Rattle.pol_operate.specs.Saying.{ledger_met, text_met}
 use Rattle.pol_operate.specs.declared.fault.DiskFailed.{DiskFailed}
 
 module _ {D : Type 0} (policy : Option PlantPolicy) (before now : KeptState PlainLedger D) where
-  -- a line that says this was answered: its reply stands behind what the buffer held, the ledger is the one that it
+  -- a line that says this was answered: its reply is behind what the buffer held, the ledger is the one that the line
   -- leaves, and what is new of that waits to be kept
   pub record IsAnswered (held holds : List ℕ) (meaning : LineMeaning PlainNamed) : Type 0 where
     pub said : holds ≡ held ++ text_met (option_map plain_plant_policy policy) (ledger_state before.chronicle) meaning

@@ -1,4 +1,4 @@
--- What the answer to a line comes to.
+-- What the answer to a blank line leaves.
 use Rattle.std.proofs.Common.{◌≡◌, ℕ, List, Option, Some, true, append-nil, refl, sym}
 use Rattle.std.specs.List.{list_all}
 use Rattle.event_json.specs.Lines.{is_blank_byte}
@@ -12,7 +12,7 @@ use Rattle.pol_ledger.specs.Work.{items_of, ledger_work}
 use Rattle.pol_operate.specs.Answered.{IsAnswered}
 
 module _ {D : Type 0} (policy : Option PlantPolicy) (store : KeptState PlainLedger D) (held : List ℕ) where
-  -- what says nothing is answered with nothing
+  -- a line that says nothing is answered with nothing
   answered_nothing : IsAnswered policy store store held held nothing
   answered_nothing = record {
     said = sym (append-nil held);
@@ -20,7 +20,7 @@ module _ {D : Type 0} (policy : Option PlantPolicy) (store : KeptState PlainLedg
     admits = untouched ledger_work ledger_state store (items_of (ledger_state store.chronicle));
   }
 
-  -- so is a blank line
+  -- a blank line is answered with nothing
   pub answered_blank : (line : List ℕ) → list_all is_blank_byte line ≡ true →
       IsAnswered policy store store held held (meaning_met named_of (Some line))
   answered_blank line blank = rw blank answered_nothing

@@ -19,18 +19,18 @@ asked_of (faulty fault) = []
 asked_of (denied rule) = []
 asked_of (admitted one) = one ∷ []
 
--- by what a line says
+-- what is asked by what a line says
 abbrev pub asked_saying : PlainPlantPolicy → LineMeaning PlainNamed → List PlainAsked
 asked_saying policy nothing = []
 asked_saying policy (at_fault fault) = []
 asked_saying policy (says said) = asked_of (operated_saying (Some policy) said)
 
--- by a line: nothing before a policy is known
+-- what is asked by a line: nothing before a policy is known
 abbrev pub asked_by_line : Option PlainPlantPolicy → Line → List PlainAsked
 asked_by_line None line = []
 asked_by_line (Some policy) line = asked_saying policy (said_by line)
 
--- by lines, where this policy is known
+-- what is asked by lines, where this policy is known
 abbrev pub asked_by_lines : Option PlainPlantPolicy → List (List ℕ) → List PlainAsked
 asked_by_lines policy [] = []
 asked_by_lines policy (line ∷ lines) =
@@ -40,7 +40,7 @@ asked_by_lines policy (line ∷ lines) =
 abbrev pub events_asked : List PlainAsked → List PlainEvent
 events_asked all = map (λ (one : PlainAsked). one.event) all
 
--- the history behind lines is the run of the old events and of those that the lines ask for
+-- The history behind lines is the run of the old events and of those that the lines ask for.
 abbrev pub OperatedIsRun : Type 0
 OperatedIsRun = (ledger : BegunLedger) (lines : List (List ℕ)) →
     history_in (known_behind (Some ledger) lines).ledger

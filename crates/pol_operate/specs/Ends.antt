@@ -73,7 +73,7 @@ OperateEnds seen source source' sink sink' (Err (BadPolicy fault)) =
 abbrev pub StandsForNoItems : List ℕ → Type 0
 StandsForNoItems bytes = (items : List PlainItem) → StandsFor ledger_work items bytes → ⊥
 
--- it is no ledger, or there was no memory
+-- the job ended since the disk is no ledger, or since there was no memory
 abbrev pub IsUnopened : Result (Unit {0}) OperateFault → Type 0
 IsUnopened (Ok done) = ⊥
 IsUnopened (Err Memory) = Unit {0}

@@ -29,11 +29,11 @@ first_known ledger = record { policy = None; ledger = ledger }
 abbrev pub known_behind : Option BegunLedger → List (List ℕ) → Known
 known_behind ledger lines = after_all operate_work (first_known ledger) lines
 
--- the items of the ledger behind them
+-- the items of the ledger behind some lines
 abbrev pub items_behind : Option BegunLedger → List (List ℕ) → List PlainItem
 items_behind ledger lines = known_items (known_behind ledger lines)
 
--- what is replied to them
+-- what is replied to some lines
 abbrev pub answers_behind : Option BegunLedger → List (List ℕ) → List ℕ
 answers_behind ledger lines = replies operate_work (first_known ledger) lines
 
@@ -46,6 +46,6 @@ operate_job = record {
   begins = true;
 }
 
--- its output on this ledger
+-- the output of the job on this ledger
 abbrev pub operated : Option BegunLedger → Output JsonFault
 operated ledger = output_by operate_work (first_known ledger)

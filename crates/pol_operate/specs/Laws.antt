@@ -50,7 +50,7 @@ pub record IsGuarded (policy : PlainPlantPolicy) (said : PlainNamed) : Type 0 wh
   pub denied : (rule : Option (List ℕ)) → operated_saying (Some policy) said ≡ denied rule →
       DeniesCommand policy said rule ⊎ DeniesLine policy said rule
 
--- so it is with whatever a line says
+-- Under any policy, whatever a line says is asked for only where it is allowed, and each denial is right.
 abbrev pub LinesAreGuarded : Type 0
 LinesAreGuarded = (policy : PlainPlantPolicy) (line : List ℕ) (said : PlainNamed) → named_of line ≡ Ok said →
     IsGuarded policy said

@@ -49,7 +49,7 @@ pub data OperatedLine : Type 0 where
 abbrev pub asked_by : PlainNamed → PlainAsked
 asked_by said = record { event = said.event; by = said.person }
 
--- what a line says is denied where the verdict on it is so, and else it is asked for by whoever gives the line
+-- what a line says is denied where the verdict denies it, and else it is asked for by whoever gives the line
 abbrev pub by_verdict : PlainNamed → Option Verdict → OperatedLine
 by_verdict said (Some (Denied rule)) = denied rule
 by_verdict said verdict = admitted (asked_by said)

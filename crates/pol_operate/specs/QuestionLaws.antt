@@ -25,7 +25,7 @@ without_questions known (line ∷ lines) =
     let others = without_questions (operate_work.after known (line_met line)) lines in
     if is_question_to known.policy (line_met line) then others else line ∷ others
 
--- what is replied to those among these lines
+-- what is replied to those of the lines that are no questions
 abbrev pub replies_to_others : Known → List (List ℕ) → List ℕ
 replies_to_others known [] = []
 replies_to_others known (line ∷ lines) =
@@ -42,14 +42,14 @@ QuestionsMayBeLeftOut = (known : Known) (lines : List (List ℕ)) →
 
 -- ---- what an event would be answered
 
--- A question what an event would be answered is told the reply that its line would get now, whatever the line says: an
+-- A question what an event would be answered gets the reply that its line would get now, whatever the line says: an
 -- answer, a denial, or its fault.
 abbrev pub WouldIsTheReply : Type 0
 WouldIsTheReply = (policy : PlainPlantPolicy) (ledger : Option BegunLedger) (line : List ℕ) →
     is_question line ≡ false → list_all is_blank_byte line ≡ false →
     told policy ledger (would (named_of line)) ≡ would_text (reply_by (Some policy) ledger (Some line))
 
--- both
+-- Questions may be left out, and a question what an event would be answered gets the reply to its line.
 pub record QuestionsChangeNothing : Type 0 where
   pub left_out : QuestionsMayBeLeftOut
   pub would : WouldIsTheReply

@@ -1,4 +1,4 @@
--- What is told to a question; it changes nothing.
+-- What is replied to a question; it changes nothing.
 use Rattle.std.specs.Prelude.{ℕ, ◌-◌, List, [], ◌++◌, length, map, reverse, take, Bool, true, false, codes, Option, Some}
 use Rattle.std.specs.Prelude.{None, Result, Ok, Err}
 use Rattle.event_json.specs.declared.fault.LineFault.{LineFault}
@@ -46,9 +46,9 @@ abbrev pub entries_in : Option BegunLedger → List NamedEntry
 entries_in ledger =
     all_named (map (λ (one : PlainAsked). one.by) (so_far_in ledger)) (reverse (history_in ledger))
 
--- what is told to a question under a policy, by the ledger as it is: what an event would be answered, what stands in
--- the plant and in its file's header and last sum, with what a person may command there, how recipes could be bound,
--- and entries
+-- what is replied to a question under a policy, by the ledger as it is: what an event would be answered, the overview
+-- of the plant with its file's header and last sum and with what a person may command there, how recipes could be
+-- bound, and entries
 abbrev pub told : PlainPlantPolicy → Option BegunLedger → PlainQuestion → List ℕ
 told policy ledger (would read) = would_text (text_met (Some policy) ledger (meaning_from read))
 told policy ledger (plant person) =
@@ -56,7 +56,7 @@ told policy ledger (plant person) =
 told policy ledger bindings = bindings_text (history_in ledger)
 told policy ledger (entries from most) = entries_text (cut_of from most (entries_in ledger))
 
--- the same by what a line asks, or by its fault
+-- what is replied by what a line asks, or by its fault
 abbrev pub told_of : PlainPlantPolicy → Option BegunLedger → Result PlainQuestion LineFault → List ℕ
 told_of policy ledger (Ok question) = told policy ledger question
 told_of policy ledger (Err fault) = fault_text fault
@@ -66,7 +66,7 @@ abbrev pub told_to : PlainPlantPolicy → Option BegunLedger → Line → List �
 told_to policy ledger None = []
 told_to policy ledger (Some text) = told_of policy ledger (question_of text)
 
--- the same where a policy is known; nothing is told before
+-- what is replied to a line that asks, where a policy is known; nothing before
 abbrev pub told_by : Option PlainPlantPolicy → Option BegunLedger → Line → List ℕ
 told_by None ledger line = []
 told_by (Some policy) ledger line = told_to policy ledger line

@@ -20,7 +20,7 @@ abbrev pub answered_text : History → Option (List ℕ) → LedgerAnswer → Li
 answered_text history batch (Answered answer) = told_text (settings_told history batch answer) answer
 answered_text history batch answer = []
 
--- the line that an event is answered with after a history, told before it happens
+-- the line that an event would be answered with after a history
 abbrev pub foreseen_text : History → PlainEvent → List ℕ
 foreseen_text history event =
     told_text (settings_told history (advanced_by event) (answer_of history event)) (answer_of history event)
@@ -33,7 +33,7 @@ text_after ledger (admitted one) =
     answered_text (history_in (ledger_after ledger (asked one))) (advanced_by one.event)
     (ledger_answer ledger (asked one))
 
--- the ledger after it
+-- the ledger after a line
 abbrev pub ledger_with : Option BegunLedger → OperatedLine → Option BegunLedger
 ledger_with ledger (admitted one) = ledger_after ledger (asked one)
 ledger_with ledger line = ledger
@@ -44,7 +44,7 @@ text_met policy ledger nothing = []
 text_met policy ledger (at_fault fault) = text_after ledger (faulty fault)
 text_met policy ledger (says said) = text_after ledger (operated_saying policy said)
 
--- the ledger that it leaves
+-- the ledger that what a line says leaves
 abbrev pub ledger_met : Option PlainPlantPolicy → Option BegunLedger → LineMeaning PlainNamed → Option BegunLedger
 ledger_met policy ledger nothing = ledger
 ledger_met policy ledger (at_fault fault) = ledger

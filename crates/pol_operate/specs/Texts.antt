@@ -20,14 +20,14 @@ use Rattle.pol_overview.specs.Near.{near_limits, rules_data}
 use Rattle.pol_ledger.specs.Items.{PlainAsked, sum_of}
 use Rattle.pol_ledger.specs.Work.{BegunLedger, history_of, items_of}
 
--- ---- an answer that starts a step tells its settings
+-- ---- an answer that starts a step has its settings
 
 -- the batch that an event has go on, if it is an advance
 abbrev pub advanced_by : PlainEvent → Option (List ℕ)
 advanced_by (advance at batch) = Some batch
 advanced_by event = None
 
--- the settings that an answer is told with: where a batch went on and started a step, those of that step
+-- the settings that are written with an answer: where a batch went on and started a step, those of that step
 abbrev pub settings_told : History → Option (List ℕ) → Answer → List Setting
 settings_told history (Some batch) (Did (Start step tag service procedure)) =
     unwrap_or (settings_of history batch step) []
@@ -37,23 +37,23 @@ settings_told history batch answer = []
 unfoldable pub did_object : Data → Data → Data
 did_object entry settings = object (member (codes "did") entry (member (codes "settings") settings no_members))
 
--- an answer with these settings; as ever where there are none
+-- an answer with these settings; where there are none, as in a journal's replay
 abbrev pub told_data : List Setting → Answer → Data
 told_data (first ∷ others) (Did entry) = did_object (entry_data entry) (written_settings (first ∷ others))
 told_data settings answer = answer_data answer
 
--- its line
+-- the line of an answer with these settings
 abbrev pub told_text : List Setting → Answer → List ℕ
 told_text settings answer = line_text (told_data settings answer)
 
 -- ---- the file is open, and the end
 
--- what was asked for so far
+-- what was asked for so far of a ledger
 abbrev pub so_far_in : Option BegunLedger → List PlainAsked
 so_far_in None = []
 so_far_in (Some ledger) = ledger.so_far
 
--- the history of the plant
+-- the history of a ledger's plant
 abbrev pub history_in : Option BegunLedger → History
 history_in ledger = history_of (so_far_in ledger)
 

@@ -22,18 +22,18 @@ pub record Known : Type 0 where
 
 -- ---- the first line that isn't blank
 
--- the policy that a line says, or its first fault; one that is too long says so
+-- the policy that a line says, or its first fault; a line that is too long has that fault
 abbrev pub policy_said : Line → ReadResult PlainPlantPolicy
 policy_said None = here (Err TooLong)
 policy_said (Some text) = plant_policy_on text
 
--- ---- the lines behind it
+-- ---- the lines behind the policy
 
--- what a line says of an event; one that asks says nothing of any
+-- what a line says of an event; a question says nothing of any
 abbrev pub said_by : Line → LineMeaning PlainNamed
 said_by line = if asks line then nothing else meaning_met named_of line
 
--- what is replied to it: to a question what is told, and else what its saying brings
+-- what is replied to a line behind the policy: to a question its reply, and else what its saying brings
 abbrev pub operated_reply : PlainPlantPolicy → Option BegunLedger → Line → List ℕ
 operated_reply policy ledger line =
     if asks line then told_to policy ledger line else text_met (Some policy) ledger (meaning_met named_of line)
@@ -50,27 +50,27 @@ abbrev pub policy_by : Option PlainPlantPolicy → Line → Option PlainPlantPol
 policy_by None line = if is_some_line line then result_ok (policy_said line) else None
 policy_by (Some policy) line = Some policy
 
--- what is replied to it
+-- what is replied to a line
 abbrev pub reply_by : Option PlainPlantPolicy → Option BegunLedger → Line → List ℕ
 reply_by None ledger line = kept_reply (policy_by None line) ledger
 reply_by (Some policy) ledger line = operated_reply policy ledger line
 
--- the ledger after it
+-- the ledger after a line
 abbrev pub ledger_by : Option PlainPlantPolicy → Option BegunLedger → Line → Option BegunLedger
 ledger_by None ledger line = ledger
 ledger_by (Some policy) ledger line = ledger_met (Some policy) ledger (said_by line)
 
--- it is refused where it should say the policy, and has this fault
+-- a line is refused where it should say the policy, and has this fault
 abbrev pub RefusesBy : Option PlainPlantPolicy → Line → JsonFault → Type 0
 RefusesBy None line fault = IsTrue (is_some_line line) × (policy_said line ≡ Err fault)
 RefusesBy (Some policy) line fault = ⊥
 
--- so is an input at its end that says none
+-- an input that says no policy is refused at its end
 abbrev pub RefusesEndBy : Option PlainPlantPolicy → JsonFault → Type 0
 RefusesEndBy None fault = fault ≡ record { kind = Missing; path = [] }
 RefusesEndBy (Some policy) fault = ⊥
 
--- what ends its output: the line of each batch, and the end line with the sum
+-- what ends the output: the line of each batch, and the end line with the sum
 abbrev pub ending_text : Option BegunLedger → List ℕ
 ending_text ledger = batches_text (history_in ledger) ++ sealed_text ledger
 

@@ -37,7 +37,7 @@ pub fn advanced_by(event: &Event) -> Option<Name>
     }
 }
 
-/// The settings that an answer is told with: where a batch went on and started a step, those of that step.
+/// The settings that are written with an answer: where a batch went on and started a step, those of that step.
 pub fn settings_told<'a>(plant: &'a Plant, batch: Option<Name>, answer: &Answer) -> &'a [Setting]
     ensures { result.now ≡ settings_told (plant_history plant.now) batch answer.now }
 {

@@ -25,7 +25,7 @@ pub enum OperateFault {
     Disk,
     /// The disk isn't a ledger; nothing was read or written.
     NotALedger {
-        /// The place of the first record that doesn't follow: how many bytes stand before it.
+        /// The place of the first record that doesn't follow: how many bytes come before it.
         place: u64,
     },
     /// The first line that isn't blank says no policy; Missing, where there is no such line.

@@ -69,19 +69,19 @@ fn operate_on<S: Source, K: Sink, D: Disk>(
 }
 
 /// Has the source's lines happen in the plant that the disk keeps, under the policy that the first of them says, and
-/// keeps each event that is asked for, with who asked for it; the disk comes back. The lines that stand there at once
+/// keeps each event that is asked for, with who asked for it; the disk comes back. The lines that are there at once
 /// are kept as a group before any of them is answered. It opens the disk before it reads the source, and begins a
 /// ledger there where none was begun; so where the disk is no ledger nothing is read or written.
 ///
 /// How it ends is one row for each result. `BadPolicy` comes of the first line that isn't blank, or of an input without
-/// one, and then nothing was written. `Disk` comes only where the disk's count of faults rose in this call. `NotALedger` comes only where it did not
-/// and the disk reads as bytes for which no list of at most 200,001 items stands; and where none at all does, it comes,
-/// unless the disk fails or there is no memory. The old items are those that the disk reads as, whatever a crash might
-/// leave of it. A crash at any moment of the call leaves what it might have left before, the old items, or these with
-/// the header of a new ledger, if it begins one, and the items of the first lines. What is said of the disk's bytes
-/// holds where it tells them to the end: where each answer was the one of a disk. At the end each image stands for so
-/// many of these that each line whose answer the sink took whole is among them; where all is done, for those of all
-/// lines.
+/// one, and then nothing was written. `Disk` comes only where the disk's count of faults rose in this call.
+/// `NotALedger` comes only where it did not and the disk reads as bytes for which no list of at most 200,001 items
+/// stands; and where none at all does, it comes, unless the disk fails or there is no memory. The old items are those
+/// that the disk reads as, whatever a crash might leave of it. A crash at any moment of the call leaves what it might
+/// have left before, the old items, or these with the header of a new ledger, if it begins one, and the items of the
+/// first lines. What is said of the disk's bytes holds where it tells them to the end: where each answer was the one of
+/// a disk. At the end each image stands for so many of these that each line whose answer the sink took whole is among
+/// them; where all is done, for those of all lines.
 pub fn operate<S: Source, K: Sink, D: Disk>(
     alloc: Global,
     source: &mut S,

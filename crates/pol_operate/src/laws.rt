@@ -34,7 +34,7 @@ pub fn operated_are_runs()
     ensures { OperatedIsRun }
 {}
 
-/// Leaving all questions out leaves out just their replies; and a question what an event would be answered is told the
+/// Leaving all questions out leaves out just their replies; and a question what an event would be answered gets the
 /// reply that its line would get now.
 #[tactic(auto, using(crate::proofs::Quiet::questions_are_quiet))]
 pub fn questions_change_nothing()

@@ -3,7 +3,7 @@
 //! Its first line that isn't blank is the policy of the plant, and is answered with how many events the disk keeps,
 //! which limits are near, and the sum of the last record. Each other line may name who gives it. It is at fault, or
 //! denied, or its event is asked of the ledger of `pol_ledger`, which keeps it with who asked and answers it; where a
-//! batch went on and started a step that has settings, these are told with the answer. The lines that stand there at
+//! batch went on and started a step that has settings, these are written with the answer. The lines that are there at
 //! once are kept as a group, by two syncs, before any of them is answered. The output closes with the line of each
 //! batch, and an end line with the sum of the last record (`specs/Lines.antt`, `specs/Texts.antt`, `specs/Work.antt`).
 //!

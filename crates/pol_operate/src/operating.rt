@@ -90,7 +90,7 @@ impl<D: Disk> Operating<D> {
         Ok(())
     }
 
-    // Puts what is told to a line that asks behind what a buffer holds; nothing before a policy is known.
+    // Puts what is replied to a line that asks behind what a buffer holds; nothing before a policy is known.
     fn tell(
         &self,
         line: InputLine<'_>,

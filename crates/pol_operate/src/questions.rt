@@ -1,4 +1,4 @@
-//! What is told to a question; it changes nothing.
+//! What is replied to a question; it changes nothing.
 ghost use Rattle.std.specs.Prelude.{◌≡◌, ◌++◌, IfOk, OnOk, Some};
 ghost use Rattle.named_lines.specs.Named.{plain_named};
 ghost use Rattle.mtp_json.specs.ReadsAs.{seen};
@@ -64,7 +64,7 @@ fn put_foreseen_line(
     put_told_line(alloc, out, &answer, settings)
 }
 
-// The same by a ledger: nothing is answered before it was begun.
+// Puts the line of the answer to an event by a ledger: nothing is answered before it was begun.
 #[tactic(auto, using(crate::proofs::Foreseen::nothing_foreseen))]
 fn put_foreseen(
     alloc: Global,
@@ -123,8 +123,8 @@ fn put_bindings(alloc: Global, out: &mut Vec<u8>, ledger: &Ledger) -> Result<(),
     put_bindings_line(alloc, out, &Plant::new(alloc))
 }
 
-// Puts what stands in the plant and in its file's header and last sum, and what a person may command there, behind what
-// a buffer holds.
+// Puts the overview of the plant, with its file's header and last sum, and with what a person may command there, behind
+// what a buffer holds.
 #[tactic(auto, using(crate::proofs::Histories::entries_begun, crate::proofs::Histories::entries_none))]
 fn put_plant(
     alloc: Global,
@@ -167,7 +167,7 @@ fn put_entries(
     put_entries_line(alloc, out, &Plant::new(alloc), &[], from, most)
 }
 
-// Puts what is told to a question behind what a buffer holds.
+// Puts what is replied to a question behind what a buffer holds.
 fn put_told(
     alloc: Global,
     out: &mut Vec<u8>,
@@ -188,7 +188,7 @@ fn put_told(
     }
 }
 
-/// Puts what is told to a line that asks behind what a buffer holds.
+/// Puts what is replied to a line that asks behind what a buffer holds.
 pub fn answer_question(
     alloc: Global,
     out: &mut Vec<u8>,

@@ -21,7 +21,7 @@ use pol_record::{ended_line, put_answer_line, write_entry, write_scalar, write_t
 use std::alloc::{AllocError, Global};
 use std::mem;
 
-// ---- an answer that starts a step tells its settings
+// ---- an answer that starts a step has its settings
 
 #[tactic(auto, using(crate::proofs::Tokens::setting_tokens))]
 fn write_setting(writer: &mut Writer, setting: &Setting) -> Result<(), AllocError>
@@ -66,7 +66,7 @@ fn write_start(
     writer.end_object()
 }
 
-/// Puts the line of an answer behind what a buffer holds: with these settings where there are some and the answer tells
+/// Puts the line of an answer behind what a buffer holds: with these settings where there are some and the answer says
 /// what was done. Where there is no memory, what the buffer held is lost.
 #[tactic(auto, using(pol_record::proofs::Tokens::line_of_tokens))]
 pub fn put_told_line(
@@ -180,7 +180,7 @@ fn write_end(writer: &mut Writer, sum: &str) -> Result<(), AllocError>
     writer.end_object()
 }
 
-/// The last line of every output: the sum of the ledger's last record stands in it.
+/// The last line of every output: the sum of the ledger's last record is in it.
 #[tactic(auto, using(pol_record::proofs::Tokens::line_of_tokens, crate::proofs::Tokens::some_line))]
 pub fn sealed_line(alloc: Global, ledger: &Ledger) -> Result<Vec<u8>, AllocError>
     ensures text { IfOk result (λ line. line.items ≡ sealed_text (ledger_state ledger.now)) }

@@ -1,4 +1,4 @@
--- The batches of a plant as they are told.
+-- The batches of a plant as the overview shows them.
 use Rattle.std.specs.Prelude.{ℕ, Bool, List, ◌∷◌, ◌++◌, codes, Option, Some, None}
 use Rattle.json.specs.Token as token
 use Rattle.json.specs.Token.{Token}
@@ -43,8 +43,8 @@ front_tokens active batch held hold next =
     ∷ (data_tokens held
     ++ (token.key (codes "hold") ∷ (data_tokens hold ++ (token.key (codes "next") ∷ data_tokens next))))))
 
--- and of its last ones: that it runs, its recipe, whether it is to be stopped, the steps that a hold doesn't reach,
--- what its nodes wait for and what it watches
+-- the tokens of the last fields of a batch that is open: that it runs, its recipe, whether it is to be stopped, the
+-- steps that a hold doesn't reach, what its nodes wait for and what it watches
 abbrev pub back_tokens : List ℕ → Bool → Data → Data → Data → List Token
 back_tokens recipe stopping unheld waits watched =
     token.key (codes "outcome")
@@ -93,7 +93,7 @@ course_data history batch started (Some outcome) hold stopping =
     (written_binds started.binds.watched)
 course_data history batch started None hold stopping = open_data history batch started hold stopping
 
--- a batch that was started, as it stands; null of another
+-- a batch that was started, by its standing; null for any other
 abbrev pub standing_data : History → List ℕ → Option Started → Option Standing → Data
 standing_data history batch None standing = null
 standing_data history batch (Some started) None = null

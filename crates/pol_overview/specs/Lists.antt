@@ -8,7 +8,7 @@ abbrev pub name_or_null : Option (List ℕ) → Data
 name_or_null None = null
 name_or_null (Some name) = string name
 
--- what is told of each of these, in order
+-- what is written of each of these, in order
 abbrev pub each_data : {A : Type 0} → (A → Data) → List A → Data
 each_data told all = array (items_of (map told all))
 

@@ -23,7 +23,7 @@ abbrev pub goes_out : Allows → History → List ℕ → List ℕ → Command �
 goes_out allows history tag service command =
     is_asked (answer_of history (desk 0 tag service command)) && allows tag service command
 
--- the code of a command that would go out now; 0 of another
+-- the code of a command that would go out now; 0 for any other
 abbrev pub code_if : Bool → ℕ → ℕ
 code_if goes code = if goes then code else 0
 

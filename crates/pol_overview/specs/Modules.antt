@@ -1,4 +1,4 @@
--- The modules of a plant as they are told.
+-- The modules of a plant as the overview shows them.
 use Rattle.std.specs.Prelude.{ℕ, List, codes, Option, Some, None}
 use Rattle.serde_json.specs.Data.{Data, null, string, object, member, no_members}
 use Rattle.mtp_codes.specs.Codes.{state_number}
@@ -67,7 +67,7 @@ value_or_null (Some value) = scalar_data value
 unfoldable pub variable_object : List ℕ → Data → Data
 variable_object name value = object (member (codes "name") (string name) (member (codes "value") value no_members))
 
--- a variable of a module, with what was told of it last since the module was docked
+-- a variable of a module, with the value that was reported last since the module was docked
 abbrev pub variable_data : History → List ℕ → PlainVariable → Data
 variable_data history tag variable =
     variable_object variable.name

@@ -1,4 +1,4 @@
--- What stands in a plant, as it is told.
+-- The overview of a plant.
 use Rattle.std.specs.Prelude.{ℕ, List, length, codes}
 use Rattle.serde_json.specs.Data.{Data, string, object, member, no_members}
 use Rattle.event_json.specs.Written.{whole}
@@ -23,13 +23,13 @@ plant_object batches begun entries modules near recipes sum = object
     (member (codes "recipes") recipes
     (member (codes "sum") (string sum) no_members)))))))
 
--- what stands in a plant after a history, with what may be commanded there, and with the header and the last sum of its
--- file
+-- the overview of a plant after a history, with what may be commanded there, and with the header and the last sum of
+-- its file
 abbrev pub plant_data : Allows → History → List ℕ → List ℕ → Data
 plant_data allows history begun sum =
     plant_object (batches_data history) begun (length history) (modules_data allows history)
     (rules_data (near_limits history)) (names_data (names_in (recipes history))) sum
 
--- the line that tells it
+-- the line of the overview
 abbrev pub plant_text : Allows → History → List ℕ → List ℕ → List ℕ
 plant_text allows history begun sum = line_text (under_key (codes "plant") (plant_data allows history begun sum))

@@ -1,5 +1,5 @@
--- The steps of an open batch as they are told: those that are active, those that a hold doesn't reach, and what the
--- nodes of its chart wait for.
+-- The steps of an open batch as the overview shows them: those that are active, those that a hold doesn't reach, and
+-- what the nodes of its chart wait for.
 use Rattle.std.specs.Prelude.{ℕ, Bool, false, List, [], filter_map, codes, is_some, Option, None, option_map, unwrap_or}
 use Rattle.std.specs.Prelude.{if◌then◌else◌}
 use Rattle.serde_json.specs.Data.{Data, string, array, object, member, no_members}
@@ -43,12 +43,12 @@ active_data history step = active_object step.service step.step step.tag (sight_
 
 -- ---- steps that a hold doesn't reach
 
--- why a recipe may not send Hold to a service that this is known of; nothing, where Hold doesn't lead out of its state
+-- why a recipe may not send Hold to a service that has this view; nothing, where Hold doesn't lead out of its state
 abbrev pub unheld_view : ServiceView → Option Forbid
 unheld_view view =
     if is_some (command_target view.control.state command.Hold) then forbidden_by view Recipe command.Hold else None
 
--- the same by what is seen of it
+-- why a recipe may not send Hold to a service, by what is seen of the service
 abbrev pub unheld_by : Sight → Option Forbid
 unheld_by (Is view) = unheld_view view
 unheld_by Unreported = None
@@ -81,6 +81,6 @@ unfoldable pub waiting_object : ℕ → Data → Data
 waiting_object node obstacle =
     object (member (codes "node") (whole node) (member (codes "obstacle") obstacle no_members))
 
--- the same, with the obstacle as an advance is answered with it
+-- an awaited node that isn't ready, with the obstacle as an advance is answered with it
 abbrev pub waiting_data : WaitingNode → Data
 waiting_data node = waiting_object node.number (answer_data (Waiting node.why))

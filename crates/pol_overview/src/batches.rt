@@ -100,7 +100,7 @@ fn write_front(
     write_next(writer, plant, batch)
 }
 
-// Writes its last fields: of these steps a hold should reach each, and these nodes wait.
+// Writes the last fields of an open batch: of these steps a hold should reach each, and these nodes wait.
 fn write_back(
     writer: &mut Writer,
     plant: &Plant,

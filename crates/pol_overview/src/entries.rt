@@ -18,10 +18,10 @@ use pol_record::{event_text, put_answer_line};
 use std::alloc::{AllocError, Global};
 use std::mem;
 
-/// How many entries are told at most where nobody says how many.
+/// How many entries are shown at most where no number is given.
 pub const MOST_TOLD: usize = 1_000;
 
-// The texts between what is told.
+// The fixed texts around the entries and between their parts.
 const OPEN: &[u8] = b"{\"entries\":[";
 
 const CLOSE: &[u8] = b"}\n";
@@ -87,7 +87,7 @@ fn put_told(
     Ok(())
 }
 
-// Puts a comma behind what a buffer holds, where something stands before.
+// Puts a comma behind what a buffer holds, where something comes before.
 #[tactic(auto, using(crate::proofs::Texts::no_comma))]
 fn put_comma(out: &mut Vec<u8>, later: bool) -> Result<(), AllocError>
     ensures { OnOk result (out.new.items ≡ out.old.items ++ comma_if later) }
@@ -98,7 +98,8 @@ fn put_comma(out: &mut Vec<u8>, later: bool) -> Result<(), AllocError>
     Ok(())
 }
 
-// Puts the text of the entry at a place behind what a buffer holds, and a comma in front of it where it isn't the first.
+// Puts the text of the entry at a place behind what a buffer holds, and a comma in front of it where it isn't the
+// first.
 fn put_at(
     alloc: Global,
     out: &mut Vec<u8>,
@@ -142,7 +143,7 @@ fn put_between(
     Ok(())
 }
 
-// The place from which entries are told, of so many.
+// The place from which on entries are shown, of so many.
 #[tactic(auto, using(crate::proofs::Cuts::dropped))]
 fn first_of(count: usize, from: usize) -> usize
     ensures low { result ≤ count }
@@ -151,7 +152,7 @@ fn first_of(count: usize, from: usize) -> usize
     if from < count { from } else { count }
 }
 
-// How many entries are told, of so many.
+// How many entries are shown, of so many.
 #[tactic(auto, using(crate::proofs::Cuts::taken))]
 fn few_of(count: usize, most: usize) -> usize
     ensures low { result ≤ count }
@@ -169,10 +170,10 @@ fn most_of(most: Option<u32>) -> usize
     }
 }
 
-/// Puts the line that tells the entries of a plant from a place on, at most so many, behind what a buffer holds: each
-/// with its answer, who asked for its event where somebody was named, and the event. Where no number is said they are at
-/// most [`MOST_TOLD`]. The persons are those who asked for the events of the plant, in order. Where there is no memory,
-/// what the buffer held is lost.
+/// Puts the line of the entries of a plant from a place on, at most so many, behind what a buffer holds: each with its
+/// answer, who asked for its event where somebody was named, and the event. Where no number is given they are at most
+/// [`MOST_TOLD`]. The persons are those who asked for the events of the plant, in order. Where there is no memory, what
+/// the buffer held is lost.
 pub fn put_entries_line(
     alloc: Global,
     out: &mut Vec<u8>,

@@ -1,13 +1,12 @@
-//! What stands in a plant, as it is told who operates it.
+//! The overview of a plant for who operates it: lines of JSON with its state and with parts of its history.
 //!
 //! `put_entries_line` writes a part of its history (`specs/Entries.antt`), each entry with who asked for its event.
 //! `put_plant_line` writes its batches, of the open ones what each step does and what each waits for, its modules with
 //! what each service reported last and which commands would go out to it now, the names of its recipes, and the limits
 //! that are near, straight from the plant's tables. Each field is what looking back over the history finds
 //! (`specs/Overview.antt`, `specs/Modules.antt`, `specs/Batches.antt`, `specs/Steps.antt`, `specs/May.antt`,
-//! `specs/Near.antt`). Who may send which commands the crate asks an `Allowing`, and what the plant's file says of
-//! itself it is told; it knows nothing of policies, files and questions.
-//!
+//! `specs/Near.antt`). An `Allowing` says which commands may be sent, and the caller says what the plant's file says of
+//! itself; the crate knows nothing of policies, files and questions.
 //! Tried in `operate_examples`.
 #![tactic(auto)]
 

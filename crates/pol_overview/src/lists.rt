@@ -1,4 +1,4 @@
-//! Names, and lists of what is told of names.
+//! Names, and lists of what is written of names.
 ghost use Rattle.std.specs.Prelude.{◌≡◌, ◌≤◌, ◌++◌, length, OnOk};
 ghost use Rattle.mtp_codes.specs.declared.limits.TheConstants.{LONGEST_HISTORY};
 ghost use Rattle.pol_record.specs.Objects.{data_tokens};
@@ -8,7 +8,7 @@ use json::Writer;
 use mtp_codes::Name;
 use std::alloc::AllocError;
 
-/// Names that are found by their places, and what is told of each.
+/// Names that are found by their places, and what is written of each.
 pub trait Listed {
     ghost use Rattle.std.specs.Prelude.{◌≡◌, ◌++◌, ℕ, List, OnOk, slice_get};
     ghost use Rattle.serde_json.specs.Data.{Data};
@@ -22,13 +22,13 @@ pub trait Listed {
     fn name_at(&self, place: u32) -> Option<Name>
         ensures { result ≡ slice_get (names self.now) place };
 
-    /// Writes what is told of a name.
+    /// Writes the list's item for a name.
     fn write(&self, writer: &mut Writer, name: Name) -> Result<(), AllocError>
         ensures tokens { OnOk result (writer.new.tokens ≡ writer.old.tokens ++ data_tokens (told self.now name)) }
         ensures before { writer.new.before ≡ writer.old.before };
 }
 
-/// Writes what is told of each name of a list.
+/// Writes a list with an item for each name.
 pub fn write_each<L: Listed>(writer: &mut Writer, list: &L) -> Result<(), AllocError>
     requires { length (L.names list.now) ≤ LONGEST_HISTORY }
     ensures tokens { OnOk result (writer.new.tokens

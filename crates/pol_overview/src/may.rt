@@ -36,7 +36,7 @@ fn goes_out<A: Allowing>(
     is_asked(&would_answer(plant, &event)) && allowing.allows(tag, service, command)
 }
 
-// The code of a command that would go out to a service of a module now; 0 of another.
+// The code of a command that would go out to a service of a module now; 0 for any other.
 fn code_if<A: Allowing>(
     plant: &Plant,
     allowing: &A,
@@ -55,8 +55,8 @@ fn code_if<A: Allowing>(
     }
 }
 
-/// The sum of the codes of the commands of the desk that would go out now to a service of a module: those of which a
-/// line would be answered so, and that are allowed.
+/// The sum of the codes of the commands of the desk that would go out now to a service of a module: those whose line
+/// would be answered so, and that are allowed.
 pub fn may_of<A: Allowing>(plant: &Plant, allowing: &A, tag: Name, service: Name) -> u32
     ensures { result ≡ may_of (A.allows allowing.now) (plant_history plant.now) tag service }
 {

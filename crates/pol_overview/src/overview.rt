@@ -1,4 +1,4 @@
-//! What stands in a plant, as a line.
+//! The overview of a plant, as a line.
 ghost use Rattle.std.specs.Prelude.{◌≡◌, ◌++◌, codes, length, OnOk};
 ghost use Rattle.pol_core.specs.Plants.{plant_history};
 ghost use Rattle.pol_core.specs.Recipes.{names_in};
@@ -58,7 +58,7 @@ fn write_recipes(writer: &mut Writer, plant: &Plant) -> Result<(), AllocError>
     write_each(writer, &Recipes { plant })
 }
 
-// Writes what stands in a plant, which has so many entries, and of whose limits these are near.
+// Writes the overview of a plant, which has so many entries, and of whose limits these are near.
 fn write_plant<A: Allowing>(
     alloc: Global,
     writer: &mut Writer,
@@ -103,10 +103,10 @@ pub struct FileWords<'a> {
     pub sum: &'a str,
 }
 
-/// Puts the line that tells what stands in a plant behind what a buffer holds: its batches, what its file's header
-/// says, the number of its entries, its modules, with the commands that would go out to each service now and that are
-/// allowed, the limits that are near, its recipes, and the sum of its file's last record. Where there is no memory,
-/// what the buffer held is lost.
+/// Puts the line of the overview of a plant behind what a buffer holds: its batches, what its file's header says, the
+/// number of its entries, its modules, with the commands that would go out to each service now and that are allowed,
+/// the limits that are near, its recipes, and the sum of its file's last record. Where there is no memory, what the
+/// buffer held is lost.
 #[tactic(auto, using(pol_record::proofs::Tokens::line_of_tokens))]
 pub fn put_plant_line<A: Allowing>(
     alloc: Global,

@@ -46,12 +46,12 @@ replies_to policy history (line ∷ lines) =
 abbrev pub is_reply_passed : List (List ℕ) → GuardedReply → Bool
 is_reply_passed gone reply = option_map_or (is_passed gone) reply.entry false
 
--- the replies to lines after a history, without these
+-- the replies to lines after a history, without those that are passed over
 abbrev pub other_replies : List (List ℕ) → PlainPolicy → History → List Line → List GuardedReply
 other_replies gone policy history lines =
     filter (λ reply. not (is_reply_passed gone reply)) (replies_to policy history lines)
 
--- their lines
+-- the lines of replies
 abbrev pub lines_of : List GuardedReply → List Line
 lines_of replies = map (λ reply. reply.line) replies
 
@@ -66,7 +66,7 @@ CompactionRepliesAlike =
     (lines_of (other_replies (closed_batches (history_after [] events)) policy (whole_after events later) lines))
     ≡ other_replies (closed_batches (history_after [] events)) policy (whole_after events later) lines
 
--- So an operator's command, by whomever it is given, has the same verdict and the same answer, unless the old plant was
+-- An operator's command, by whomever it is given, has the same verdict and the same answer, unless the old plant was
 -- full.
 abbrev pub CompactionCommandsAlike : Type 0
 CompactionCommandsAlike =

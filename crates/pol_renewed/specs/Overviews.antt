@@ -1,4 +1,4 @@
--- What is told of a plant that goes on from a compacted history.
+-- What the overview says of a plant that goes on from a compacted history.
 use Rattle.std.specs.Prelude.{ℕ, ◌≡◌, false, not, List, [], filter}
 use Rattle.mtp_codes.specs.Names.{is_among}
 use Rattle.pol_events.specs.Events.{PlainEvent}
@@ -19,10 +19,10 @@ use Rattle.pol_renewed.specs.Renewed.{renewed_after, whole_after}
 abbrev pub nothing_allowed : Allows
 nothing_allowed tag service command = false
 
--- Of the one history the same is told as of the other, in which some batches are forgotten: of the modules, with the
--- commands that would go out where the whole history isn't full, and without them also where it is; of the recipes; and
--- of each batch that isn't forgotten, all where the whole history isn't full, and where it is what is told without what
--- comes next. These are listed in the same order.
+-- The overview says the same of one history as of the other, in which some batches are forgotten: of the modules, with
+-- the commands that would go out where the whole history isn't full, and without them also where it is; of the recipes;
+-- and of each batch that isn't forgotten, all where the whole history isn't full, and where it is what is said without
+-- what comes next. The batches that aren't forgotten are listed in the same order.
 pub record TellsSame (gone : List (List ℕ)) (whole less : History) : Type 0 where
   pub modules : (allows : Allows) → is_full whole ≡ false → modules_data allows less ≡ modules_data allows whole
   pub without_commands : modules_data nothing_allowed less ≡ modules_data nothing_allowed whole
@@ -34,7 +34,7 @@ pub record TellsSame (gone : List (List ℕ)) (whole less : History) : Type 0 wh
   pub waits : (batch : List ℕ) → is_among gone batch ≡ false → waits_of less batch ≡ waits_of whole batch
   pub listed : batches less ≡ filter (λ batch. not (is_among gone batch)) (batches whole)
 
--- a plant that goes on from what stays tells what the old one tells
+-- The overview of a plant that goes on from what stays says what that of the old one says.
 abbrev pub CompactionTellsAlike : Type 0
 CompactionTellsAlike =
     (events later : List PlainEvent) → AreOrderly events →

@@ -28,7 +28,7 @@ pub record FindsSame (whole less : History) : Type 0 where
   pub bindings : bindings_text less ≡ bindings_text whole
   pub found : (bad : ℕ) (text : List ℕ) → IsFound whole bad text → IsFound less bad text
 
--- a plant that goes on from what stays finds what the old one finds
+-- A plant that goes on from what stays finds what the old one finds.
 abbrev pub CompactionFindsAlike : Type 0
 CompactionFindsAlike =
     (events later : List PlainEvent) → AreOrderly events →

@@ -1,8 +1,8 @@
-//! What stays as it was where a plant goes on from a compacted history: what is found for new batches, what is replied
-//! under a policy, and what is told of the plant. Laws alone, each the contract of a function with an empty body; they
-//! stand on the law that the two plants are alike (`pol_compaction`).
+//! Laws of what stays as it was where a plant goes on from a compacted history: what is found for new batches, what is
+//! replied under a policy, and what the overview says of the plant. Each is the contract of a function with an empty
+//! body; they rest on the law that the two plants are alike (`pol_compaction`).
 //!
-//! No test tries it.
+//! Laws alone: no test tries them.
 #![tactic(auto)]
 
 ghost use Rattle.pol_renewed.specs.Guarded.{CompactionCommandsAlike, CompactionRepliesAlike};
@@ -10,8 +10,8 @@ ghost use Rattle.pol_renewed.specs.Overviews.{CompactionTellsAlike};
 ghost use Rattle.pol_renewed.specs.Renewed.{CompactionFindsAlike};
 
 /// After the events that stay of a history, and whatever came later, the same modules are free, and each is described
-/// and seen as after all of them; the same recipes are known, in the same order. So the same bindings are told, and the
-/// finder finds the same. The events are orderly, as those that lines say are; those that come later are any.
+/// and seen as after all of them; the same recipes are known, in the same order. So the same bindings are offered, and
+/// the finder finds the same. The events are orderly, as those that lines say are; those that come later are any.
 pub fn compaction_finds_alike()
     ensures { CompactionFindsAlike }
 {}
@@ -25,10 +25,10 @@ pub fn compaction_guards_alike()
     ensures commands { CompactionCommandsAlike }
 {}
 
-/// After the events that stay of a history, and whatever came later, the same is told of the modules, of the recipes,
-/// and of each batch that wasn't closed there, as after all of them; also which commands would go out, whoever may send
-/// them, and what comes next of a batch, unless the history was full. The events are orderly; those that come later are
-/// any.
+/// After the events that stay of a history, and whatever came later, the overview says the same of the modules, of the
+/// recipes, and of each batch that wasn't closed there, as after all of them; also which commands would go out, whoever
+/// may send them, and what comes next of a batch, unless the history was full. The events are orderly; those that come
+/// later are any.
 pub fn compaction_tells_alike()
     ensures { CompactionTellsAlike }
 {}

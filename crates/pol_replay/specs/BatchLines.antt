@@ -13,7 +13,7 @@ gathered_text gathered batch = record_text batch (known_of gathered.records.entr
 abbrev pub gathered_lines : BatchRecords → List (List ℕ) → List ℕ
 gathered_lines gathered batches = flat_map (gathered_text gathered) batches
 
--- of these bytes all was written but the rest
+-- all of these bytes was written but the rest
 pub record WritesUpTo (held held' : Option (List ℕ)) (rest all : List ℕ) : Type 0 where
   pub written : List ℕ
   pub appended : Appends held held' written

@@ -44,7 +44,7 @@ reply_text history nothing = []
 reply_text history (at_fault fault) = fault_text fault
 reply_text history (says event) = answer_text (answer_of history event)
 
--- the history that it leaves
+-- the history that a line's saying leaves after a history
 abbrev pub after_meaning : History → LineMeaning PlainEvent → History
 after_meaning history nothing = history
 after_meaning history (at_fault fault) = history

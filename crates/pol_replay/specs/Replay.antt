@@ -12,7 +12,7 @@ replay_work =
     work_of (λ history line. reply_text history (meaning_met event_of line))
     (λ history line. after_meaning history (meaning_met event_of line)) closing_text
 
--- its output: the answers to the lines, and then the lines of the batches and the end line; together the defined output
--- of the input
+-- the output of a replay: the answers to the lines, and then the lines of the batches and the end line; together the
+-- defined output of the input
 abbrev pub replayed : Output Infallible
 replayed = texts_of answers_of (λ bytes. closing_text (history_of bytes))

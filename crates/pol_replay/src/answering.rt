@@ -69,7 +69,7 @@ fn is_start(line: &[u8]) -> bool {
         && line.starts_with(b"{\"ev\":\"start\"")
 }
 
-// Answers a line that isn't blank, read by the tree of its JSON. The large locals of such a reading stand here, so that
+// Answers a line that isn't blank, read by the tree of its JSON. The large locals of such a reading are here, so that
 // the other lines don't pay for them.
 #[inline(never)]
 #[tactic(auto, using(crate::proofs::Spoken::says_what, crate::proofs::Spoken::has_fault))]

@@ -1,6 +1,6 @@
-//! What is written of a history is read again: the audit finds it good, a replay of its events gives its answers and
-//! its batch lines, and each answer and each entry is read from its own line as it was. Each is a law over all legal
-//! histories, or over all answers or entries that a program holds: the contract of a function with an empty body.
+//! Laws that what is written of a history can be read again: the audit finds it good, a replay of its events gives its
+//! answers and its batch lines, and each answer and each entry is read back from its own line. Each is a law over all
+//! legal histories, or over all answers or entries that a program holds: the contract of a function with an empty body.
 //!
 //! It knows nothing of how a history came about, nor of who writes it.
 //!

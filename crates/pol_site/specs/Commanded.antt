@@ -32,14 +32,14 @@ times_changed service command past =
     changes_by (λ procedure. completes_by service procedure (description_by past)) command
     (controls_in service (since_docking past))
 
--- each service of each docked module was changed by each command at most as often as that was sent to it; of a module
--- that isn't docked nothing counts
+-- Each command changed each service of a docked module at most as often as it was sent there. Of a module that isn't
+-- docked nothing counts.
 abbrev pub IsCommandedNow : History → Type 0
 IsCommandedNow history =
     (tag service : List ℕ) (command : Command) →
     times_changed service command (past tag history) ≤ times_sent tag service command (story tag history)
 
--- so it is now, and was after every entry before
+-- After each entry, no command changed a service more often than it was sent there.
 abbrev pub IsCommanded : History → Type 0
 IsCommanded [] = Unit {0}
 IsCommanded (entry ∷ older) = IsCommandedNow (entry ∷ older) × IsCommanded older

@@ -47,38 +47,38 @@ opened history = length (filter (λ entry. is_opening entry.event) history)
 
 -- ---- exchanges
 
--- where the exchanges stand: none is open; one was begun; its end was held back, and it is to be cancelled
+-- the state of the exchanges: none is open; one was begun; its end was held back, and it is to be cancelled
 pub data Exchanging : Type 0 where
   none_open : Exchanging
   was_begun : (tag : List ℕ) (ticket : ℕ) → Exchanging
   was_held : (tag : List ℕ) (ticket : ℕ) → Exchanging
 
--- the begin of an exchange, by its answer
+-- the state of the exchanges after a begin, by its answer
 abbrev pub begun_with : List ℕ → Answer → Exchanging
 begun_with tag (Ticket ticket) = was_begun tag ticket
 begun_with tag _ = none_open
 
--- the end of an exchange, by its answer
+-- the state of the exchanges after an end, by its answer
 abbrev pub ended_with : List ℕ → ℕ → Answer → Exchanging
 ended_with tag ticket (Refused (HeldBack batch missing)) = was_held tag ticket
 ended_with tag ticket _ = none_open
 
--- where an event leaves the exchanges
+-- the state in which an event of an exchange leaves the exchanges; none for any other event
 abbrev pub exchanging_after : PlainEvent → Answer → Option Exchanging
 exchanging_after (exchange_begin at tag) answer = Some (begun_with tag answer)
 exchanging_after (exchange_end at tag ticket description) answer = Some (ended_with tag ticket answer)
 exchanging_after (exchange_cancel at tag ticket) answer = Some none_open
 exchanging_after _ answer = None
 
--- the last event of an exchange, if there was one
+-- the state after the last event of an exchange, if there was one
 abbrev pub last_exchanging : History → Option Exchanging
 last_exchanging history = last_of (λ entry. exchanging_after entry.event entry.answer) history
 
--- where the exchanges stand
+-- the state of the exchanges after a history
 abbrev pub exchanging : History → Exchanging
 exchanging history = unwrap_or (last_exchanging history) none_open
 
--- the next recipe or module of the site, before the first exchange; stamps are never compared
+-- the event is that of the site's next recipe or module, before the first exchange; stamps are never compared
 pub record IsOpening (site : PlainSite) (older : History) (event : PlainEvent) : Type 0 where
   pub listed : slice_get (openings site) (opened older) ≡ Some event
   pub unexchanged : last_exchanging older ≡ None
@@ -147,7 +147,7 @@ pub record IsStart (site : PlainSite) (older : History) (batch recipe : List ℕ
   pub first : last_entry_of batch older ≡ None
   pub not_put_off : is_put_off answer ≡ false
 
--- the batch did something, and the entry of it before was accepted: a start that was refused is its last
+-- the batch did something, and its entry before was accepted: a refused start is the last entry of a batch
 pub record IsAdvance (older : History) (batch : List ℕ) (answer : Answer) : Type 0 where
   pub before : PlainEntry
   pub last : last_entry_of batch older ≡ Some before
@@ -224,7 +224,7 @@ IsAllowed site older (exchange_begin at tag) answer = IsBegin site older tag ans
 IsAllowed site older (exchange_end at tag ticket description) answer = IsEnd site older tag ticket description
 IsAllowed site older (exchange_cancel at tag ticket) answer = IsCancel older tag ticket answer
 
--- the history follows the site
+-- Each entry of the history is one that the site allows after those before it.
 abbrev pub FollowsSite : PlainSite → History → Type 0
 FollowsSite site [] = Unit {0}
 FollowsSite site (entry ∷ older) = IsAllowed site older entry.event entry.answer × FollowsSite site older

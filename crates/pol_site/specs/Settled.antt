@@ -1,4 +1,4 @@
--- An actor of a site has nothing to do.
+-- When an actor of a site has nothing to do.
 use Rattle.std.specs.Prelude.{ℕ, Bool, true, false, not, ◌&&◌, ◌||◌, ◌⊎◌, nat_lt, nat_le, List, length, Option, Some}
 use Rattle.std.specs.Prelude.{None, is_some, is_none, slice_get, IsTrue, if◌then◌else◌}
 use Rattle.std.specs.List.{list_all, list_any, AllByRecursion}
@@ -78,7 +78,7 @@ is_some_running past services = list_any (λ service. is_running (view_by servic
 abbrev pub is_read : History → Drift → Bool
 is_read past drift = is_some (whole_in (value_by drift.name past))
 
--- the drift has come to its greatest value
+-- the drift has reached its greatest value
 abbrev pub is_spent : History → Drift → Bool
 is_spent past drift = is_none (next_value drift (whole_in (value_by drift.name past)))
 
@@ -90,7 +90,7 @@ is_quiet_module description drifts past =
     && (list_all (is_read past) drifts
     && (not (is_some_running past description.services) || list_all (is_spent past) drifts))
 
--- the same of the description that it has
+-- a module with this description is quiet, by its past; so is one without a description
 abbrev pub is_quiet_by : Option PlainDescription → List Drift → History → Bool
 is_quiet_by None drifts past = true
 is_quiet_by (Some description) drifts past = is_quiet_module description drifts past
@@ -119,7 +119,7 @@ abbrev pub is_start_settled : History → PlainSiteBatch → Option PlainEntry �
 is_start_settled history batch (Some entry) = not (is_accepted entry.answer)
 is_start_settled history batch None = is_put_off (answer_of history (start 0 batch.batch batch.recipe batch.binds))
 
--- a batch: it is closed; or it waits; or it isn't started, and its start was refused or is put off
+-- a batch is settled: it is closed; or it waits; or it isn't started, and its start was refused or is put off
 abbrev pub is_settled_batch : History → PlainSiteBatch → Bool
 is_settled_batch history batch =
     if is_some (start_of history batch.batch)
@@ -128,7 +128,7 @@ is_settled_batch history batch =
 
 -- ---- the desk
 
--- the next command waits for entries; or there is none
+-- the next command of the desk waits for entries, or there is none
 abbrev pub waits_to_order : History → Option PlainSiteDesk → Bool
 waits_to_order history None = true
 waits_to_order history (Some order) = nat_lt (length history) order.after
@@ -142,10 +142,10 @@ is_settled site history (a_module unit) = is_settled_module site history unit.ta
 is_settled site history (a_batch batch) = is_settled_batch history batch
 is_settled site history the_desk = waits_to_order history (slice_get site.desk (ordered history))
 
--- the actor has nothing to do
+-- the actor has nothing to do after the history
 abbrev pub IsSettledActor : PlainSite → History → Actor → Type 0
 IsSettledActor site history actor = IsTrue (is_settled site history actor)
 
--- no actor of the site has anything to do, or the history is full
+-- No actor of the site has anything to do, or the history is full.
 abbrev pub IsSettled : PlainSite → History → Type 0
 IsSettled site history = AllByRecursion (IsSettledActor site history) (actors site) ⊎ IsTrue (is_full history)

@@ -19,7 +19,7 @@ abbrev pub name_at : ℕ → Option PlainDescription → Option (List ℕ)
 name_at place None = None
 name_at place (Some description) = option_map (λ service. service.name) (slice_get description.services place)
 
--- it is this name
+-- the name is this one
 abbrev pub is_name_of : List ℕ → Option (List ℕ) → Bool
 is_name_of name None = false
 is_name_of name (Some other) = bytes_eq other name
@@ -31,7 +31,7 @@ shown_by name (report at tag service control) = if is_name_of service name then 
 shown_by name (exchange_begin at tag) = if is_some name then Some None else None
 shown_by name _ = None
 
--- the word after an entry at this place
+-- a word of the board after the entry at this place
 abbrev pub word_after : Option (Option State) → ℕ → BoardWord → BoardWord
 word_after None place word = word
 word_after (Some state) place word = record { number = suc place; state = state }

@@ -36,12 +36,12 @@ touches tag entry = is_accepted_of tag entry || is_some (sent_to tag entry)
 abbrev pub story : List ℕ → History → History
 story tag history = filter (touches tag) history
 
--- it is a command for the service
+-- the command, if there is one, is for the service
 abbrev pub is_for : List ℕ → Option Sent → Bool
 is_for service None = false
 is_for service (Some sent) = bytes_eq sent.service service
 
--- it is this command for the service
+-- the command, if there is one, is this one and for the service
 abbrev pub is_given : List ℕ → Command → Option Sent → Bool
 is_given service command None = false
 is_given service command (Some sent) = bytes_eq sent.service service && same_command sent.command command

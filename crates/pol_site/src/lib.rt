@@ -1,10 +1,11 @@
-//! A site: its modules with their simulations, its recipes, batches, exchanges and the commands of its desk; and what
-//! it means that a history follows a site, that every change has its command, that a site is settled, and what its
-//! status board shows.
+//! The site that a plant runs by itself, and what the running plant promises. A site has modules with their
+//! simulations, recipes, batches, exchanges and the commands of its desk. The crate defines what it means that a
+//! history follows a site, that every change has its command and that a site is settled, and what its status board
+//! shows.
 //!
 //! Every `Site` keeps the rules of `specs/Sound.antt`; `site_json` reads one from a line. What a running plant promises
-//! is told here as definitions over plain data; the crate knows no text form, and nothing of threads, of locks or of
-//! how an actor finds what to do.
+//! is defined over plain data; the crate knows no text form, and nothing of threads, of locks or of how an actor finds
+//! what to do.
 //!
 //! Tried in `live_examples`.
 #![tactic(auto)]

@@ -1,11 +1,10 @@
-//! What holds of commands in every history that follows its site and whose changes have their commands: a command is
-//! only ever sent to a service that is still and whose earlier commands were all answered by a report; so a simulated
-//! module takes each command that it looks at, and what it reports is allowed by its site. The laws over plain data
-//! stand in specs/, each proved by a lemma of that type in proofs/; those below are told as functions too, each with
-//! an empty body.
+//! Laws of commands: where a history follows its site and each change in it has its command, a command is only ever
+//! sent to a service that is still and whose earlier commands were all answered by a report. So a simulated module
+//! takes each command that it looks at, and its site allows what it reports. The laws over plain data are in specs/,
+//! each proved by a lemma of that type in proofs/; those below are stated as functions too, each with an empty body.
 //!
-//! It knows nothing of threads or of who takes turns. The law itself is in `specs/Law.antt`; how a service stands to
-//! its commands in `specs/Phases.antt` and `specs/Served.antt`.
+//! It knows nothing of threads or of who takes turns. The law itself is in `specs/Law.antt`; how far a service is with
+//! its commands is in `specs/Phases.antt` and `specs/Served.antt`.
 //!
 //! Laws alone: no test tries them.
 #![tactic(auto)]
@@ -35,7 +34,7 @@ pub fn open_is_away()
     ensures { OpenIsAway }
 {}
 
-/// In a history that follows its site a docked module has a plan: the site tells how it is simulated.
+/// In a history that follows its site a docked module has a plan: the site says how it is simulated.
 #[tactic(auto, using(crate::proofs::Planned::docked_planned))]
 pub fn docked_are_planned()
     ensures { DockedArePlanned }

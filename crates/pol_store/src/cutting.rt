@@ -5,8 +5,8 @@ ghost use Rattle.pol_store.specs.Stands.{HasFirst, StandsFor};
 
 use crate::chronicle::KeptPlant;
 
-/// The text of the first event that an image stands for, and what stands behind its record: an image that stands for
-/// the others. None where the image stands for no event.
+/// The text of the first event that an image stands for, and what follows its record: an image that stands for the
+/// others. None where the image stands for no event.
 pub fn first_text(image: &[u8]) -> Option<(&[u8], &[u8])>
     ensures first { IfSome result (λ cut. (events : List PlainEvent) → StandsFor events image.now
         → HasFirst cut.0.now cut.1.now events) }

@@ -50,7 +50,7 @@ impl<D: Disk> Model for Store<D> {
 impl<D: Disk> Store<D> {
     /// Opens a disk, whatever a crash, a kill or a failed run left on it. At Ok each crash from now on leaves the
     /// events that the disk reads as. A disk of at most one byte becomes a store without events. What is said of the
-    /// bytes that the disk told before holds where it tells its bytes still: so no answer was other than these.
+    /// bytes that the disk gave before holds where it gives them still: so no answer was other than these.
     ///
     /// Beside the store comes the image that was read, which stands for its events; an empty one, where there was no
     /// event to read.

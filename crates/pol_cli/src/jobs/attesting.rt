@@ -1,4 +1,4 @@
-//! An audit that tells which bytes it read.
+//! An audit that says which bytes it read.
 ghost use Rattle.std.specs.Prelude.{◌≡◌, ◌++◌, IfOk, OnOk};
 ghost use Rattle.pol_jobs.specs.Ends.{Ends, edge};
 ghost use Rattle.pol_record.specs.Objects.{data_tokens};
@@ -23,7 +23,7 @@ fn held_by(alloc: Global, sink: &MemorySink) -> Result<Vec<u8>, AllocError>
     sink.bytes().to_vec(alloc)
 }
 
-// The line of the verdict over some bytes. They stand in memory, so no other fault comes than want of it.
+// The line of the verdict over some bytes. They are in memory, so the only fault is that there is no more memory.
 fn verdict_on(alloc: Global, bytes: Vec<u8>) -> Result<Vec<u8>, AllocError>
     ensures { IfOk result (λ text. text.items ≡ verdict_text (audit_of bytes.items)) }
 {
@@ -52,7 +52,7 @@ fn write_read(writer: &mut Writer, count: u64, sum: &str) -> Result<(), AllocErr
     writer.end_object()
 }
 
-// The line that tells which bytes were read.
+// The line that says which bytes were read.
 #[tactic(auto, using(pol_record::proofs::Tokens::line_of_tokens))]
 fn read_line(alloc: Global, bytes: &[u8]) -> Result<Vec<u8>, AllocError>
     ensures { IfOk result (λ line. line.items ≡ read_text bytes.now) }
@@ -73,8 +73,8 @@ fn attested_text(alloc: Global, bytes: Vec<u8>) -> Result<Vec<u8>, AllocError>
     Ok(text)
 }
 
-/// Reads an input to its end, and then writes the line of the verdict over it, and the line that tells how many bytes
-/// it has and their SHA-256. The input is held in memory meanwhile.
+/// Reads an input to its end, and then writes the line of the verdict over it, and the line that says how many bytes it
+/// has and their SHA-256. The input is held in memory meanwhile.
 pub fn attest<S: Source, K: Sink>(
     alloc: Global,
     source: &mut S,

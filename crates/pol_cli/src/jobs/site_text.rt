@@ -19,7 +19,7 @@ use std::alloc::{AllocError, Global};
 use std::convert::Infallible;
 use std::mem;
 
-/// What the lines of a site text have told so far.
+/// What the lines of a site text have said so far.
 #[derive(Drop)]
 pub enum SiteLines {
     /// Nothing: all were blank.
@@ -42,7 +42,7 @@ fn whole(alloc: Global, kind: FaultKind) -> JsonFault
     }
 }
 
-// What one line tells.
+// What one line says.
 #[tactic(auto, using(crate::proofs::SiteTexts::says_short))]
 fn line_told(alloc: Global, line: &[u8]) -> Result<SiteLines, AllocError>
     ensures { IfOk result (λ lines. lines_told lines ≡ one (line_says (Some line.now))) }
@@ -55,7 +55,7 @@ fn line_told(alloc: Global, line: &[u8]) -> Result<SiteLines, AllocError>
 }
 
 impl SiteLines {
-    // What was told, once one more line wasn't blank.
+    // What the lines say, once one more line wasn't blank.
     fn after(&self, alloc: Global, line: &[u8]) -> Result<SiteLines, AllocError>
         ensures { IfOk result (λ lines. lines_told lines ≡ after_filled (lines_told self.now) (Some line.now)) }
     {
@@ -65,7 +65,7 @@ impl SiteLines {
         }
     }
 
-    // The same, where that line was too long.
+    // What the lines say, once one more line wasn't blank and was too long.
     #[tactic(auto, using(crate::proofs::SiteTexts::says_long))]
     fn after_long(&self, alloc: Global) -> SiteLines
         ensures { lines_told result ≡ after_filled (lines_told self.now) None }
@@ -76,7 +76,7 @@ impl SiteLines {
         }
     }
 
-    // The site that the whole text tells, or its fault.
+    // The site that the whole text says, or its fault.
     fn told(self, alloc: Global) -> Result<Site, JsonFault>
         ensures { seen plain_site result ≡ told (lines_told self) }
     {
@@ -97,7 +97,7 @@ struct SiteText {
 }
 
 impl SiteText {
-    // The site that was told, by a text that says one.
+    // The site that was read, by a text that says one.
     #[tactic(auto, using(crate::proofs::SiteTexts::accepted_site))]
     fn into_site(self) -> Site
         requires { AcceptsEnd site_work (lines_told self.lines) }
