@@ -48,7 +48,7 @@ pub distinct_back : (front back : List (List ℕ)) → Distinct (front ++ back) 
 distinct_back [] back new = new
 distinct_back (first ∷ front) back (new, others) = distinct_back front back others
 
--- and no name stands in both
+-- and no name is in both
 pub distinct_apart : (name : List ℕ) (front back : List (List ℕ)) → Distinct (front ++ back) → In name front
     → In name back → ⊥
 distinct_apart name [] back new here there = here

@@ -101,7 +101,7 @@ module _ {E : Type 0} where
       turn_unique test front entry back start other rest in_front in_start outside beyond tails in
       (let fronts : front ≡ start = found.0 in cc, found.1, found.2)
 
-  -- what stands last in a cut
+  -- what comes last in a cut
   pub snoc_cut :
       (word : List E) (entry : E) (front back : List E) → word ++ (entry ∷ []) ≡ front ++ back
       → ((back ≡ []) × (word ++ (entry ∷ []) ≡ front)) ⊎

@@ -56,7 +56,7 @@ one_named (first ∷ placed) one other (new, distinct) here there same =
       ]
     ]
 
--- In a valid chart the name tells the step.
+-- In a valid chart the name identifies the step.
 pub names_tell_steps : NamesTellSteps
 names_tell_steps chart one other valid here there same =
     one_named (steps chart.root 0) one other (subst Distinct (names_are chart.root 0)

@@ -168,7 +168,7 @@ rounds_align test Body turns Before After Goal added of_body apart both early la
     rounds_align test Body turns Before After Goal added of_body apart both early late back others
     (subst (Rounds Body turns After) (sym same.2) others1)
 
--- in a word that is all of p, nothing else stands
+-- in a word that is all of p, nothing else is there
 pub inside : {E : Type 0} (test : E → Bool) (front : List E) (entry : E) (back : List E)
     → All test (front ++ (entry ∷ back)) → test entry ≡ true
 inside test front entry back all = (All_back test front (entry ∷ back) all).0

@@ -43,7 +43,7 @@ some_nodes (loop body until) = omega arith
 first_within : (each : Tree) → nat_lt 0 (size each) ≡ true
 first_within each = grind (arith, nat_tests, some_nodes each)
 
--- No branch stands before a tree's first node.
+-- No branch comes before a tree's first node.
 mutual
   first_apart : (each : Tree) (role service : List ℕ) → clashes each 0 role service ≡ false
   first_apart (leaf step) role service = refl

@@ -1,4 +1,4 @@
--- The sizes of the nodes of a tree, wherever they stand in a list.
+-- The sizes of the nodes of a tree, wherever they are in a list.
 use Rattle.std.specs.Prelude.{ℕ, ◌≡◌, ◌+◌, List, [], ◌∷◌, ◌++◌, length, refl}
 use Rattle.std.proofs.Common.{◌∙◌, ap, sym, subst, arith, append_assoc}
 use Rattle.std.proofs.lemmas.List.{length-append, append-nil}
@@ -37,7 +37,7 @@ first_size (par each) = (all_sizes_in each, refl)
 first_size (choice each) = (arm_sizes_in each, refl)
 first_size (loop body until) = (sizes_in body, refl)
 
--- the size of a tree stands before those of its nodes
+-- the size of a tree comes before those of its nodes
 own_size : (each : Tree) (front back : List ℕ)
     → sizes_of (front ++ (sizes_in each ++ back)) (length front) ≡ size each
 own_size each front back =

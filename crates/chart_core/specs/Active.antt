@@ -8,7 +8,7 @@ use Rattle.chart_core.specs.Entries.{Stage, begin, finish, reset, end, ChartEntr
 use Rattle.chart_core.specs.declared.entry.LogEntry.{LogEntry}
 use Rattle.chart_core.specs.declared.entry.LogEntry.TheVariants.{Start, Finish, Reset, End, Chose, Turn, Leave, Stop, Broke, Left, StopAsked, Hold, Unhold, Asked}
 
--- where a step stands: not running (not started, ended, stopped or left), or what it had last
+-- the phase of a step: idle where it doesn't run (not started, ended, stopped or left), else what it had last
 pub data Phase : Type 0 where
   idle : Phase
   started : Phase
@@ -25,8 +25,8 @@ abbrev pub last_of : {A B : Type 0} → (A → Option B) → List A → Option B
 last_of says [] = None
 last_of says (entry ∷ later) = or_earlier (last_of says later) (says entry)
 
--- Where the entry leaves the step with this name; nothing where it is no entry of it. A Broke, a Hold and an Unhold are
--- none of a step.
+-- The phase in which the entry leaves the step with this name; nothing where it is no entry of that step. Broke, Hold
+-- and Unhold leave each step in the phase that it had.
 abbrev pub phase_by : List ℕ → LogEntry → Option Phase
 phase_by name (Start step tag service procedure) = when (same_name step name) started
 phase_by name (Finish step tag service) = when (same_name step name) finished
@@ -48,7 +48,7 @@ abbrev pub or_idle : Option Phase → Phase
 or_idle None = idle
 or_idle (Some phase) = phase
 
--- where the step with this name stands after the log
+-- the phase of the step with this name after the log
 abbrev pub phase_after : List LogEntry → List ℕ → Phase
 phase_after log name = or_idle (last_of (phase_by name) log)
 
@@ -67,14 +67,14 @@ is_active log placed = is_running (phase_after log placed.step.name)
 abbrev pub active_steps : PlainChart → List LogEntry → List Placed
 active_steps chart log = filter (is_active log) (steps chart.root 0)
 
--- where an entry of this stage leaves its step
+-- the phase in which an entry of this stage leaves its step
 abbrev pub stage_phase : Stage → Phase
 stage_phase begin = started
 stage_phase finish = finished
 stage_phase reset = was_reset
 stage_phase end = idle
 
--- where a run's entry leaves the step with this name; nothing where it is no entry of it
+-- the phase in which a run's entry leaves the step with this name; nothing where it is no entry of that step
 abbrev pub entry_phase : List ℕ → Option ChartEntry → Option Phase
 entry_phase name None = None
 entry_phase name (Some (of_step stage step service procedure)) = when (same_name step name) (stage_phase stage)

@@ -72,7 +72,7 @@ abbrev pub either_change : Option Change → Option Change → Option Change
 either_change None other = other
 either_change (Some change) other = Some change
 
--- of a selection: what its choice changes, or what the chosen arm does
+-- the change of a selection: that of its choice while nothing is chosen, then that of the chosen arm
 abbrev pub change_in_arm : Option Change → (ℕ → Option Change) → Progress → Option Change
 change_in_arm choice arm Untouched = choice
 change_in_arm choice arm Begun = None
@@ -82,7 +82,7 @@ change_in_arm choice arm Ended = None
 change_in_arm choice arm (Chosen place) = arm place
 change_in_arm choice arm Left = None
 
--- of a loop: the change, until it was left
+-- the change of a loop, until the loop is left
 abbrev pub while_untouched : Option Change → Progress → Option Change
 while_untouched change Untouched = change
 while_untouched change Begun = None

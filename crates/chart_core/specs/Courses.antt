@@ -1,5 +1,5 @@
--- Which words are complete and partial runs, by cutting them. A course is a chart as words see it: what stands at its
--- leaves are tests of entries, so that nothing here speaks of names, conditions or readings.
+-- Which words are complete and partial runs, by cutting the words. A course is a chart as words see it: its leaves are
+-- tests of entries, so that nothing here speaks of names, conditions or readings.
 use Rattle.std.specs.Prelude.{ℕ, ◌≡◌, ◌<◌, zero, suc, List, [], ◌∷◌, ◌++◌, map, Bool, true, false, ◌||◌, Option, Some, is_some, ◌⊎◌}
 use Rattle.std.specs.List.{filter}
 use Rattle.chart_core.specs.Entries.{Stage, begin, finish, reset, end}

@@ -13,7 +13,7 @@ pub data Stage : Type 0 where
   reset : Stage
   end : Stage
 
--- what an entry of a run decides at its node; an arm is told by its place
+-- what an entry of a run decides at its node; an arm is given by its place
 pub data Decision : Type 0 where
   chose : ℕ → Decision
   turn : Decision

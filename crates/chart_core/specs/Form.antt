@@ -1,4 +1,4 @@
--- The form of a chart: how long its lists may be, and which values may stand in it.
+-- The form of a chart: how long its lists may be, and which values may occur in it.
 use Rattle.std.specs.Prelude.{ℕ, ◌+◌, suc, max, length, List, [], ◌∷◌, map, Bool, true, false, not, ◌&&◌, nat_le, Option, Some, None}
 use Rattle.mtp_codes.specs.Numbers.{is_between}
 use Rattle.mtp_codes.specs.declared.value.Reading.{Reading}
@@ -10,7 +10,7 @@ use Rattle.chart_core.specs.Trees.{PlainStep, Tree, Trees, Arms, leaf, seq, par,
 use Rattle.chart_core.specs.declared.condition.Op.{Op}
 use Rattle.chart_core.specs.declared.condition.Op.TheVariants.{Lt, Le, Eq, Ne, Ge, Gt}
 
--- no name is there twice
+-- no name is in the list twice
 abbrev pub are_distinct : List (List ℕ) → Bool
 are_distinct [] = true
 are_distinct (name ∷ others) = not (is_among others name) && are_distinct others
@@ -25,12 +25,12 @@ may_compare Ne (Bit value) = true
 may_compare Ge (Bit value) = false
 may_compare Gt (Bit value) = false
 
--- how many conditions stand in the list
+-- how many conditions are in the list
 abbrev pub formula_count : Formulas → ℕ
 formula_count no_formulas = 0
 formula_count (more_formulas each others) = suc (formula_count others)
 
--- each list in the condition has 1 to 16 members, and each test may compare
+-- each list in the condition has 1 to 16 members, and each test may compare with its value
 abbrev mutual
   pub has_parts_formed : Formula → Bool
   has_parts_formed (constant value) = true
@@ -43,7 +43,7 @@ abbrev mutual
   have_parts_formed no_formulas = true
   have_parts_formed (more_formulas each others) = has_parts_formed each && have_parts_formed others
 
--- how many tests stand in the condition
+-- how many tests are in the condition
 abbrev mutual
   pub test_count : Formula → ℕ
   test_count (constant value) = 0
@@ -69,24 +69,24 @@ abbrev mutual
   nestings no_formulas = 0
   nestings (more_formulas each others) = max (nesting each) (nestings others)
 
--- a condition has at most 16 tests and is nested at most 8 deep
+-- a condition has formed parts and at most 16 tests, and is nested at most 8 deep
 abbrev pub is_formula_formed : Formula → Bool
 is_formula_formed each =
     has_parts_formed each && (nat_le (test_count each) MOST_TESTS && nat_le (nesting each) DEEPEST_CONDITION)
 
--- a finish, where there is one, has such a condition
+-- a finish, where there is one, is a formed condition
 abbrev pub is_finish_formed : Option Formula → Bool
 is_finish_formed None = true
 is_finish_formed (Some condition) = is_formula_formed condition
 
--- a step's procedure is from 1, and it sets at most 32 parameters, none twice
+-- a step's procedure is from 1, the step sets at most 32 parameters, none twice, and its finish is formed
 abbrev pub is_step_formed : PlainStep → Bool
 is_step_formed step =
     nat_le 1 step.procedure
     && (nat_le (length step.settings) MOST_SETTINGS
     && (are_distinct (map (λ setting. setting.name) step.settings) && is_finish_formed step.finish))
 
--- how many nodes stand in the list
+-- how many nodes are in the list
 abbrev pub tree_count : Trees → ℕ
 tree_count no_trees = 0
 tree_count (more_trees each others) = suc (tree_count others)

@@ -1,4 +1,4 @@
--- Conditions as plain data, and where they are true.
+-- Conditions as plain data, and on which readings they are true.
 use Rattle.std.specs.Prelude.{ℕ, ℤ, List, [], ◌∷◌, map, Bool, true, false, not, ◌&&◌, ◌||◌, Option, Some, None, int_lt, int_le}
 use Rattle.std.specs.Ordering.{int_eq}
 use Rattle.std.specs.Bool.{beq}
@@ -28,7 +28,7 @@ abbrev pub formulas_of : List Formula → Formulas
 formulas_of [] = no_formulas
 formulas_of (each ∷ others) = more_formulas each (formulas_of others)
 
--- a condition as plain data, where those within it are so already
+-- a condition as plain data, where the conditions within it are plain already
 abbrev pub formula_step : Condition-F Formula → Formula
 formula_step (Condition-F.Const value) = constant value
 formula_step (Condition-F.All each) = all_of (formulas_of each.items)
@@ -53,7 +53,7 @@ compares_whole Ne left right = not (int_eq left right)
 compares_whole Ge left right = int_le right left
 compares_whole Gt left right = int_lt right left
 
--- two truth values compare as the operator says: they have no order
+-- two truth values compare as the operator says; truth values have no order
 abbrev pub compares_bits : Op → Bool → Bool → Bool
 compares_bits Lt left right = false
 compares_bits Le left right = false
@@ -69,7 +69,7 @@ compares op (Whole left) (Bit right) = false
 compares op (Bit left) (Whole right) = false
 compares op (Bit left) (Bit right) = compares_bits op left right
 
--- the same, where there is a reading
+-- there is a reading, and it and the value are of one kind and compare as the operator says
 abbrev pub compares_read : Op → Option Reading → Reading → Bool
 compares_read op None value = false
 compares_read op (Some reading) value = compares op reading value
@@ -87,12 +87,12 @@ abbrev mutual
   holds (not_of inner) known = not (holds inner known)
   holds (test role variable op value) known = compares_read op (known role variable) value
 
-  -- each of them is true
+  -- each of the conditions is true on these readings
   pub all_hold : Formulas → Known → Bool
   all_hold no_formulas known = true
   all_hold (more_formulas each others) known = holds each known && all_hold others known
 
-  -- one of them is true
+  -- one of the conditions is true on these readings
   pub some_holds : Formulas → Known → Bool
   some_holds no_formulas known = false
   some_holds (more_formulas each others) known = holds each known || some_holds others known

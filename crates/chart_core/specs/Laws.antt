@@ -8,23 +8,23 @@ use Rattle.chart_core.specs.Runs.{IsPartial}
 use Rattle.chart_core.specs.Names.{names, Distinct}
 use Rattle.chart_core.specs.Valid.{IsValid}
 
--- no name is there twice among the names of its steps
+-- The names of the steps of a valid chart are distinct.
 abbrev pub NamesAreDistinct : Type 0
 NamesAreDistinct = (chart : PlainChart) → IsValid chart → Distinct (names chart.root)
 
--- two of its steps that have one name are one step
+-- Two steps of a valid chart that have one name are one step.
 abbrev pub NamesTellSteps : Type 0
 NamesTellSteps =
     (chart : PlainChart) (one other : Placed) → IsValid chart → Contains (steps chart.root 0) one
     → Contains (steps chart.root 0) other
     → one.step.name ≡ other.step.name → one ≡ other
 
--- the role of each of its steps is one of its roles
+-- The role of each step of a valid chart is one of the chart's roles.
 abbrev pub StepsHaveRoles : Type 0
 StepsHaveRoles =
     (chart : PlainChart) (placed : Placed) → IsValid chart → Contains (steps chart.root 0) placed
     → IsTrue (is_among (role_names chart) placed.step.role)
 
--- the empty log is a partial run of it
+-- The empty log is a partial run of each valid chart.
 abbrev pub NothingIsPartial : Type 0
 NothingIsPartial = (chart : PlainChart) → IsValid chart → IsPartial chart []

@@ -19,12 +19,12 @@ abbrev mutual
   arm_names no_arms = []
   arm_names (more_arms when each others) = names each ++ arm_names others
 
--- the name is one of these
+-- the name is in the list
 abbrev pub In : List ℕ → List (List ℕ) → Type 0
 In name [] = ⊥
 In name (each ∷ others) = (name ≡ each) ⊎ In name others
 
--- no name is there twice
+-- no name is in the list twice
 abbrev pub Distinct : List (List ℕ) → Type 0
 Distinct [] = Unit {0}
 Distinct (name ∷ others) = (In name others → ⊥) × Distinct others

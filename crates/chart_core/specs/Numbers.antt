@@ -10,7 +10,7 @@ abbrev pub number_named : List ℕ → List Placed → Option ℕ
 number_named name placed =
     option_map (λ placed. placed.number) (find (λ placed. same_name placed.step.name name) placed)
 
--- the same of the steps of a tree whose first node has the number n
+-- the number of the first step of a tree that has the name; the tree's first node has the number n
 abbrev mutual
   pub number_in : List ℕ → Tree → ℕ → Option ℕ
   number_in name (leaf step) n = when (same_name step.name name) n

@@ -24,7 +24,7 @@ abbrev mutual
 abbrev pub plans_seen : List (Bor Step) → List PlainStep
 plans_seen steps = map (λ step. plain_step step.now) steps
 
--- what a later entry says, else what was so before
+-- what a later entry says; where it says nothing, what was so before
 abbrev pub or_before : Option Bool → Bool → Bool
 or_before None before = before
 or_before (Some later) before = later

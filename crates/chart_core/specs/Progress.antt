@@ -1,4 +1,4 @@
--- How far each node has come, by its number, and which words that stands for.
+-- How far each node has come, by its number, and for which words these marks stand.
 use Rattle.std.specs.Prelude.{ℕ, ◌≡◌, ◌<◌, ◌≤◌, Bool, true, ◌||◌, get_or, List, [], ◌∷◌, ◌++◌, map, Option, Some, ◌⊎◌}
 use Rattle.std.specs.List.{filter}
 use Rattle.chart_core.specs.Entries.{Stage, begin, finish, reset, end}
@@ -10,7 +10,7 @@ use Rattle.chart_core.specs.declared.progress.Progress.TheVariants.{Untouched, B
 abbrev pub Marks : Type 0
 Marks = ℕ → Progress
 
--- the marks in this list; behind it all is untouched
+-- the marks in this list; behind the end of the list all is untouched
 abbrev pub marks_of : List Progress → Marks
 marks_of list place = get_or list place Untouched
 
@@ -36,7 +36,7 @@ Done (beside one other) marks = Done one marks × Done other marks
 Done (select number count own chooses bodies) marks = (arm : ℕ) × (marks number ≡ Chosen arm) × Done (bodies arm) marks
 Done (repeat number after body own turns leaves) marks = marks number ≡ Left
 
--- what a step that has come so far has had
+-- the stages that a step has had, by how far it has come
 pub data Had (finishes : Bool) : Progress → List (Option Stage) → Type 0 where
   had_nothing : Had finishes Untouched []
   had_begin : Had finishes Begun (Some begin ∷ [])

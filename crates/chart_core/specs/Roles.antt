@@ -27,7 +27,7 @@ plain_role role = record { role = role.role; type_name = role.type_name; wants =
 abbrev pub role_names : PlainChart → List (List ℕ)
 role_names chart = map (λ role. role.role) chart.roles
 
--- there are 1 to 64 distinct roles, each with a text of at most 64 bytes
+-- the chart has 1 to 64 distinct roles, each with a text of at most 64 bytes
 abbrev pub are_roles_formed : PlainChart → Bool
 are_roles_formed chart =
     is_between 1 MOST_ROLES (length chart.roles)

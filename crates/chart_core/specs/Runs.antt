@@ -15,7 +15,7 @@ pub record WordEntry : Type 0 where
   pub entry : Option ChartEntry
   pub unconditioned : Bool
 
--- an entry of a log is with_condition with its condition; where it is none of a run, no run has it
+-- an entry of a log as an entry of a word, with its condition; an entry that is none of a run is in no run
 abbrev pub with_condition : LogEntry → WordEntry
 with_condition entry = record { entry = chart_entry entry; unconditioned = false }
 
@@ -41,7 +41,7 @@ arm_reads each = reads_of (arm_conditions each)
 abbrev pub loop_reads : Formula → List Read
 loop_reads until = reads_of (more_formulas until no_formulas)
 
--- of a decision with its readings: the arm that it chooses rightly
+-- the arm that a decision with these readings chooses rightly
 abbrev pub right_choice : Arms → Bool → Decision → List Reading → Option ℕ
 right_choice each unconditioned (chose arm) values =
     if nat_lt arm (arm_count each) && (unconditioned || is_first_true (arm_conditions each) arm
@@ -55,7 +55,7 @@ abbrev pub right_arm : Arms → Bool → Option Decided → Option ℕ
 right_arm each unconditioned None = None
 right_arm each unconditioned (Some decided) = right_choice each unconditioned decided.decision decided.values
 
--- of a decision with its readings: it turns the loop rightly
+-- a decision with these readings turns the loop rightly
 abbrev pub right_turn : Formula → Bool → Decision → List Reading → Bool
 right_turn until unconditioned (chose arm) values = false
 right_turn until unconditioned turn values = unconditioned || not (holds until (stored (loop_reads until) values))
@@ -66,7 +66,7 @@ abbrev pub turns_rightly : Formula → Bool → Option Decided → Bool
 turns_rightly until unconditioned None = false
 turns_rightly until unconditioned (Some decided) = right_turn until unconditioned decided.decision decided.values
 
--- of a decision with its readings: it leaves the loop rightly
+-- a decision with these readings leaves the loop rightly
 abbrev pub right_leave : Formula → Bool → Decision → List Reading → Bool
 right_leave until unconditioned (chose arm) values = false
 right_leave until unconditioned turn values = false

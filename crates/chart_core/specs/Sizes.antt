@@ -2,7 +2,7 @@
 use Rattle.std.specs.Prelude.{ℕ, ◌≡◌, ◌+◌, List, [], ◌∷◌, ◌++◌, get_or}
 use Rattle.chart_core.specs.Trees.{Tree, Trees, Arms, leaf, seq, par, choice, loop, no_trees, more_trees, no_arms, more_arms, size, sizes, arm_sizes}
 
--- the numbers of this list, by their places; behind the last it is 0
+-- the numbers of this list, by their places; 0 behind the last
 abbrev pub sizes_of : List ℕ → ℕ → ℕ
 sizes_of list place = get_or list place 0
 

@@ -16,6 +16,6 @@ StandsFor chart marks log = Stands (course_of chart) (marks_of marks) (word log)
 abbrev pub marks_after : PlainChart → List LogEntry → Marks
 marks_after chart log = marks_along (course_of chart) (λ i. Untouched) (word log)
 
--- the marks are those after the log; an entry of it that may not come where it stands is passed over
+-- the marks are those after the log; an entry of the log that may not come at its place is passed over
 abbrev pub AreAfter : PlainChart → List Progress → List LogEntry → Type 0
 AreAfter chart marks log = marks_of marks ≡ marks_after chart log

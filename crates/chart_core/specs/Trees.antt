@@ -67,7 +67,7 @@ plain_step step =
       finish = plain_finish step.finish;
     }
 
--- a node as plain data, where the nodes and arms within it are so already
+-- a node as plain data, where the nodes and arms within it are plain already
 abbrev pub node_step : Node-F Tree PlainArm → Tree
 node_step (Node-F.Step step) = leaf (plain_step step)
 node_step (Node-F.Seq each) = seq (trees_of each.items)
@@ -75,7 +75,7 @@ node_step (Node-F.Par each) = par (trees_of each.items)
 node_step (Node-F.Sel each) = choice (arms_of each.items)
 node_step (Node-F.Loop body until) = loop body.value (plain_condition until)
 
--- an arm as plain data, where its body is so already
+-- an arm as plain data, where its body is plain already
 abbrev pub arm_step : Arm-F Tree PlainArm → PlainArm
 arm_step arm = record { when = plain_condition arm.when; body = arm.body }
 
@@ -95,7 +95,7 @@ trees nodes = trees_of (map plain_node nodes)
 abbrev pub arms : List Arm → Arms
 arms each = arms_of (map plain_arm each)
 
--- How many nodes there are. The node behind a plain_node whose first node is number n is number n + size.
+-- How many nodes a tree has. The node behind a tree whose first node has the number n has the number n + size.
 abbrev mutual
   pub size : Tree → ℕ
   size (leaf step) = 1
@@ -127,7 +127,7 @@ pub record Placed : Type 0 where
   pub number : ℕ
   pub step : PlainStep
 
--- the steps of a plain_node whose first node has the number n, in chart order
+-- the steps of a tree whose first node has the number n, in chart order
 abbrev mutual
   pub steps : Tree → ℕ → List Placed
   steps (leaf step) n = record { number = n; step = step } ∷ []

@@ -28,7 +28,7 @@ abbrev mutual
   arm_step_counts no_arms = 0
   arm_step_counts (more_arms when each others) = step_count each + arm_step_counts others
 
--- A node as it is met in chart order: its number, its depth, how many steps stand before it, the step that it is, and
+-- A node as it is met in chart order: its number, its depth, how many steps come before it, the step that it is, and
 -- the conditions by which it decides.
 pub record Visit : Type 0 where
   pub number : ℕ
@@ -42,7 +42,7 @@ abbrev pub finish_conditions : Option Formula → Formulas
 finish_conditions None = no_formulas
 finish_conditions (Some condition) = more_formulas condition no_formulas
 
--- a tree's first node
+-- a tree's first node, as it is met in chart order
 abbrev pub visit : Tree → ℕ → ℕ → ℕ → Visit
 visit (leaf step) n depth earlier =
     record {
@@ -75,7 +75,7 @@ visit (loop body until) n depth earlier =
     record { number = n; depth = depth; earlier = earlier; step = None; conditions = more_formulas until no_formulas }
 
 -- The nodes of a tree in chart order: a node before its children, children from first to last. Its first node has the
--- number n and this depth, and this many steps stand before it.
+-- number n and this depth, and this many steps come before it.
 abbrev mutual
   pub visits : Tree → ℕ → ℕ → ℕ → List Visit
   visits (leaf step) n depth earlier = visit (leaf step) n depth earlier ∷ []
@@ -132,8 +132,8 @@ abbrev mutual
   arm_uses no_arms role service = false
   arm_uses (more_arms when each others) role service = uses each role service || arm_uses others role service
 
--- Of the step at this place (the tree's first node has place 0): in a parallel above it, a branch before its own has a
--- step of this role and service.
+-- The step at this place (the tree's first node has place 0) clashes: in a parallel above it, a branch before its own
+-- has a step of this role and service.
 abbrev mutual
   pub clashes : Tree → ℕ → List ℕ → List ℕ → Bool
   clashes (leaf step) place role service = false

@@ -6,11 +6,11 @@ use Rattle.chart_core.specs.Valid.{visit, node_fault}
 use Rattle.chart_core.specs.declared.fault.ChartFault.{ChartFault}
 use Rattle.chart_core.specs.declared.valid.Reached.{Reached}
 
--- where a walk has come, or the fault at which it stopped
+-- how far a walk has come, or the fault at which it stopped
 abbrev pub Walk : Type 0
 Walk = Result Reached ChartFault
 
--- it stops at this fault, or goes on
+-- a walk that stops at this fault, if there is one, or goes on
 abbrev pub stop_at : Option ChartFault → Walk → Walk
 stop_at None onward = onward
 stop_at (Some fault) onward = Err fault

@@ -8,12 +8,12 @@ use super::role::Role;
 /// A chart: its roles, and its nodes under one root.
 ///
 /// It has 1 to 64 distinct roles, each list of nodes, arms, settings and conditions is as long as its kind allows, and
-/// procedures are from 1: `specs/Form.antt` says it. Whether the chart is valid is asked beside this.
+/// procedures are from 1 (`specs/Form.antt`). Whether the chart is valid is a separate question: `Chart::valid`.
 #[derive(Drop)]
 pub struct Chart {
     /// 1 to 64, no two of one name.
     pub roles: Vec<Role>,
-    /// What is run; the other nodes stand under it.
+    /// The node that is run; the other nodes are under it.
     pub root: Node,
     pub ghost form: { IsTrue (has_form roles.items root) },
 }

@@ -1,4 +1,4 @@
-//! The first step of a tree that passes a test, for whoever looks for one.
+//! The first step of a tree that passes a test.
 
 ghost use Rattle.std.specs.Prelude.{◌≡◌, is_some, option_copied, option_map};
 ghost use Rattle.chart_core.specs.Finding.{first_passing, first_passing_among, first_passing_in_arms};

@@ -1,10 +1,10 @@
-//! Recipe charts: procedures of steps in sequence, in parallel, by choice and in loops (after the procedure function
-//! charts of ISA-88, IEC 61512-2), the entries of a batch's log, what a batch does next and how it is closed, and
-//! which words of entries are runs of a chart.
+//! Recipe charts: what a batch runs, as steps in sequence, in parallel, by choice and in loops (after the procedure
+//! function charts of ISA-88, IEC 61512-2); with the entries of a batch's log, what a batch does next and how it is
+//! closed, and which words of entries are runs of a chart.
 //!
 //! It knows nothing of modules, plants or any text form. `Chart::valid` answers exactly the first fault of a chart.
-//! The definitions of complete and partial runs (`specs/Runs.antt`) and how far each node has come stand here for the
-//! crates that ask a word and that follow one, with the laws of valid charts.
+//! Complete and partial runs (`specs/Runs.antt`) and how far each node has come are defined here, for the crates that
+//! judge a whole word and for those that follow one entry by entry; the laws of valid charts are here too.
 //!
 //! Tried in `chart_examples`.
 #![tactic(auto)]

@@ -6,7 +6,7 @@ use mtp_codes::{Name, Setting};
 /// the condition on which the step is completed by command; a step without one waits until the service completes.
 #[derive(Drop)]
 pub struct Step {
-    /// The name by which logs and answers tell the step.
+    /// The name by which logs and answers identify the step.
     pub name: Name,
     /// The role whose module has the service.
     pub role: Name,

@@ -28,7 +28,8 @@ fn number_in(node: &Node, number: u32, name: Name) -> Result<u32, u32>
     }
 }
 
-// The same among kids, the first of which has this number.
+// The number of the first step of these nodes that has the name, or where there is none the number behind their last
+// node; the first of them has this number.
 #[cycle(numbered)]
 fn number_among(kids: &[Node], first: u32, name: Name) -> Result<u32, u32>
     requires { first + sizes (trees kids.now) < 2 ^ 32 }
@@ -45,7 +46,8 @@ fn number_among(kids: &[Node], first: u32, name: Name) -> Result<u32, u32>
     Err(number)
 }
 
-// The same among arms, the first of whose bodies has this number.
+// The number of the first step of these arms that has the name, or where there is none the number behind their last
+// node; the first of their bodies has this number.
 #[cycle(numbered)]
 fn number_in_arms(each: &[Arm], first: u32, name: Name) -> Result<u32, u32>
     requires { first + arm_sizes (arms each.now) < 2 ^ 32 }

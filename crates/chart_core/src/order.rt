@@ -51,7 +51,7 @@ fn put_arms<'a>(each: &'a [Arm], found: &mut Vec<&'a Step>) -> Result<(), AllocE
 ///
 /// # Errors
 ///
-/// AllocError where memory is wanting for one reference for each step.
+/// AllocError where there is no memory for one reference for each step.
 #[tactic(auto, using(crate::proofs::Ordered::plans_are))]
 pub fn steps_in_order(alloc: Global, chart: &Chart) -> Result<Vec<&Step>, AllocError>
     ensures { IfOk result (λ found. map (λ step. plain_step step.now) found.items

@@ -22,7 +22,7 @@ pub struct Read {
 }
 
 impl Default for Read {
-    // What lies in a room that holds no read yet.
+    // What is in a place that holds no read yet.
     fn default() -> Read {
         let blank = Name::of_bytes(b"-").unwrap();
         Read {

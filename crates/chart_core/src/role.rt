@@ -14,7 +14,7 @@ pub struct Role {
     pub type_name: Name,
     /// The requirement on the version, as the recipe writes it.
     pub wants: Short,
-    /// The same, read.
+    /// The requirement that the text `wants` reads to.
     pub req: VersionReq,
     pub ghost reads: { IsReadTo wants req },
 }

@@ -1,4 +1,4 @@
-//! How many nodes there are.
+//! How many nodes a tree has, the arms of a selection have, and each node of a chart has.
 ghost use Rattle.std.specs.Prelude.{◌≡◌, ◌<◌, ◌^◌, ◌++◌, length, IfOk, OnOk};
 ghost use Rattle.chart_core.specs.Charts.{plain_chart};
 ghost use Rattle.chart_core.specs.Sizes.{HasSizes, all_sizes_in, arm_sizes_in, sizes_in, sizes_of};
@@ -92,7 +92,7 @@ fn put_arm_sizes(each: &[Arm], found: &mut Vec<u32>) -> Result<(), AllocError>
 ///
 /// # Errors
 ///
-/// AllocError where memory is wanting for one number for each node.
+/// AllocError where there is no memory for one number for each node.
 pub fn node_sizes(alloc: Global, chart: &Chart) -> Result<Vec<u32>, AllocError>
     requires { IsValid (plain_chart chart.now) }
     ensures room { IfOk result (λ found. length found.items ≡ size (plain_node chart.now.root)) }

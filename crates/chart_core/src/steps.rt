@@ -189,8 +189,8 @@ fn has_clash_behind(node: &Node, role: Name, service: Name) -> bool
     }
 }
 
-/// Of the step at this place of the tree: whether a branch before its own, in a parallel above it, has a step of this
-/// role and service. Visits each node at most twice: to find the place, and as one of a branch before it.
+/// Whether the step at this place of the tree clashes: a branch before its own, in a parallel above it, has a step of
+/// this role and service. Visits each node at most twice: to find the place, and as one of a branch before it.
 pub fn has_clash(node: &Node, place: u32, role: Name, service: Name) -> bool
     ensures { result ≡ clashes (plain_node node.now) place role service }
 {

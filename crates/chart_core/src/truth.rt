@@ -1,4 +1,4 @@
-//! Where a condition is true on stored readings.
+//! Whether a condition is true on stored readings.
 ghost use Rattle.std.specs.Prelude.{◌≡◌, slice_get};
 ghost use Rattle.chart_core.specs.Formulas.{plain_condition, formulas, compares, compares_whole, compares_bits, holds, all_hold, some_holds};
 ghost use Rattle.chart_core.specs.Reads.{stored};

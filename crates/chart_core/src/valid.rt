@@ -23,7 +23,7 @@ use super::role::Role;
 use super::steps::{has_clash, is_named};
 use mtp_codes::Name;
 
-/// Where a walk through a chart has come: the number of the next node, and how many steps stand before it.
+/// How far a walk through a chart has come: the number of the next node, and how many steps come before it.
 #[derive(Clone, Copy)]
 pub struct Reached {
     pub number: u32,

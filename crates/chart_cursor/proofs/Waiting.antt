@@ -61,7 +61,7 @@ same_first low high spot other spots others rising also (inr there) (inr here) =
     let below = no_lower (spot.number + 1) other.number spots rising.1 here in
     absurd (omega (arith, above, below))
 
--- two that rise and have the same numbers are the same, told by their numbers
+-- two that rise and have the same numbers are the same, identified by their numbers
 same_told : {B : Type 0} (tell : ℕ → Option B) (low high : ℕ) (spots others : List OpenNode) → Rises low spots
     → Rises high others → ((number : ℕ) → InSpots number spots → InSpots number others)
     → ((number : ℕ) → InSpots number others → InSpots number spots)
@@ -83,7 +83,7 @@ same_told tell low high (spot ∷ spots) (other ∷ others) rising also into bac
     (let above = no_lower (other.number + 1) number others also.1 among in omega (arith, above, same))
     (back number (inr among))))
 
--- the nodes that aren't ready, told by their numbers
+-- the nodes that aren't ready, identified by their numbers
 told_by_number : (seen : Sights) (ready : ℕ → CursorNext) (each : List OpenNode) → Agrees seen ready each
     → waiting_among seen each ≡ filter_map (λ (spot : OpenNode). waiting_in spot.number (ready spot.number)) each
 told_by_number seen ready [] agree = refl

@@ -15,7 +15,7 @@ use Rattle.chart_cursor.specs.declared.next.CursorNext.TheVariants.{Whole}
 abbrev pub flag_at : List Bool → ℕ → Bool
 flag_at flags number = get_or flags number false
 
--- from this number on, and without the flag
+-- the number is `from` or a later one, and its node has no flag
 abbrev pub is_unasked : ℕ → List Bool → ℕ → Bool
 is_unasked from asked number = nat_le from number && not (flag_at asked number)
 
@@ -28,7 +28,7 @@ abbrev pub hold_running : Sights → PlainStep → Phase → Option LogEntry
 hold_running seen step phase =
     if is_running phase then hold_step step (tag_of seen step.role) (seen.view step.role step.service) else None
 
--- the entry Hold, where the node is such a step, and its number passes the test
+-- the entry Hold of a node, where it is a running step that may be sent Hold, and its number passes the test
 abbrev pub hold_node : Sights → (ℕ → Bool) → ℕ → Tree → Phase → Option LogEntry
 hold_node seen test number (leaf step) phase = if test number then hold_running seen step phase else None
 hold_node seen test number (seq each) phase = None
@@ -42,7 +42,7 @@ first_hold_node seen test [] = None
 first_hold_node seen test (spot ∷ others) =
     option_or (hold_node seen test spot.number spot.node (phase_of spot.progress)) (first_hold_node seen test others)
 
--- these steps, where what their services do isn't over
+-- those of these steps whose services are under way: they are seen, and what they do isn't over
 abbrev pub under_way : Sights → List PlainStep → List PlainStep
 under_way seen steps = filter (λ step. is_under_way (seen.view step.role step.service)) steps
 
@@ -54,7 +54,7 @@ unhold_running seen step phase =
     (unhold_row step (tag_of seen step.role))
     else Whole
 
--- the same, where the node is such a step, and its number passes the test
+-- the entry Unhold or the obstacle of a node, where it is a running step, and its number passes the test
 abbrev pub unhold_node : Sights → (ℕ → Bool) → ℕ → Tree → Phase → CursorNext
 unhold_node seen test number (leaf step) phase = if test number then unhold_running seen step phase else Whole
 unhold_node seen test number (seq each) phase = Whole

@@ -15,7 +15,7 @@ use Rattle.chart_cursor.specs.declared.next.CursorNext.{CursorNext}
 use Rattle.chart_cursor.specs.declared.next.CursorNext.TheVariants.{Entry, Wait, Whole}
 use Rattle.chart_cursor.specs.declared.running.RunningStep.{RunningStep}
 
--- these steps, as they are told while they run
+-- these steps as running steps
 abbrev pub told_running : List Placed → List RunningStep
 told_running steps = map (λ placed. running_step placed.number placed.step) steps
 
@@ -27,7 +27,7 @@ running_at_node from spot = running_node (is_wanted from None) spot.number spot.
 abbrev pub running_from : ℕ → List OpenNode → List RunningStep
 running_from from spots = filter_map (running_at_node from) spots
 
--- the node with this number, where what it comes to is an obstacle
+-- the node with this number, where what comes next of it is an obstacle
 abbrev pub waiting_in : ℕ → CursorNext → Option WaitingNode
 waiting_in number (Entry entry) = None
 waiting_in number (Wait why) = Some (record { number = number; why = why })
@@ -46,8 +46,8 @@ waiting_among seen spots = filter_map (waiting_node seen) spots
 abbrev pub waits_after : PlainChart → List LogEntry → Sights → List WaitingNode
 waits_after chart log seen = waiting_among seen (open_nodes chart.root 0 (marks_after chart log))
 
--- These are the awaited nodes after the log that aren't ready, by what each node is ready for: each of them is awaited
--- and has this obstacle, and each awaited node with an obstacle is one of them.
+-- The list has the awaited nodes after the log that aren't ready, by what each node is ready for: each of them is
+-- awaited and has this obstacle, and each awaited node with an obstacle is in the list.
 pub record AreWaiting (chart : PlainChart) (log : List LogEntry) (ready : ℕ → CursorNext) (nodes : List WaitingNode) :
     Type 0 where
   pub awaited : (node : WaitingNode) → Contains nodes node →

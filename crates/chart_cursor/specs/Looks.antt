@@ -21,7 +21,7 @@ abbrev pub look_ready : {S : Type 0} → (S → Sights) → FirstReady S → Ope
 look_ready sights ready spot =
     record { seen = ready.seen; next = first_next ready.next (open_node_ready (sights ready.seen.now) spot) }
 
--- what each of two is after it
+-- what each of two visitors is after one node more
 abbrev pub look_both : {V W : Type 0} → (V → OpenNode → V) → (W → OpenNode → W) → Both V W → OpenNode → Both V W
 look_both one other both spot = record { one = one both.one spot; other = other both.other spot }
 

@@ -27,9 +27,9 @@ use Rattle.chart_cursor.specs.declared.next.CursorNext.TheVariants.{Entry, Wait,
 use Rattle.chart_cursor.specs.declared.sight.Sight.{Sight}
 use Rattle.chart_cursor.specs.declared.sight.Sight.TheVariants as sight
 
--- an active step of a batch that is stopped, by its name, its service and its module's tag: Stop where a recipe may
--- send it, else the step is left in its state; a step of whose service nothing is known waits, which no history comes
--- to
+-- what a batch that is stopped does with an active step, by its name, its service and its module's tag: Stop where a
+-- recipe may send it, else the step is left in its state; where nothing is known of the service the batch waits, which
+-- occurs in no history
 abbrev pub stop_step : List ℕ → List ℕ → List ℕ → Sight → Next
 stop_step step service tag sight.Away = Waiting (why.Away tag)
 stop_step step service tag sight.Unreported = Waiting (why.NotReported tag service)
@@ -38,7 +38,7 @@ stop_step step service tag (sight.Is view) =
     then Did (Stop step tag service)
     else Did (Left step view.control.state)
 
--- a batch that is stopped: its first active step, and when there is none it is closed
+-- what a batch that is stopped does next: it stops its first active step, and where there is none it is closed
 abbrev pub stop_next : Sights → Bool → List PlainStep → Next
 stop_next seen broken [] = Closed (if broken then Broken else Stopped)
 stop_next seen broken (step ∷ others) =
@@ -103,8 +103,8 @@ abbrev pub is_held : State → Bool
 is_held state.Held = true
 is_held other = false
 
--- a service that is owed an Unhold: the entry Unhold where it is Held and a recipe may send it Unhold, else the
--- obstacle
+-- what comes next of a service that is owed an Unhold: the entry Unhold where the service is Held and a recipe may send
+-- it Unhold, else the obstacle
 abbrev pub unhold_row : PlainStep → List ℕ → ServiceView → CursorNext
 unhold_row step tag view =
     if is_held view.control.state then commanded step view command.Unhold (Unhold step.name tag step.service)
@@ -120,7 +120,7 @@ first_unhold seen (step ∷ others) =
     (unhold_row step (tag_of seen step.role)))
     (first_unhold seen others)
 
--- the one, or where it is nothing the other
+-- the first of two, or where that is nothing the second
 abbrev pub unless_whole : CursorNext → CursorNext → CursorNext
 unless_whole (Entry entry) other = Entry entry
 unless_whole (Wait obstacle) other = Wait obstacle

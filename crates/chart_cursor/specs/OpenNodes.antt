@@ -12,7 +12,7 @@ use Rattle.chart_cursor.specs.declared.next.CursorNext.TheVariants.{Entry, Wait,
 use Rattle.chart_cursor.specs.Sights.{Sights}
 use Rattle.chart_cursor.specs.Ready.{node_ready}
 
--- where a step stands that has come so far
+-- the phase of a step that has come so far
 abbrev pub phase_of : Progress → Phase
 phase_of Untouched = idle
 phase_of Begun = started
@@ -87,7 +87,7 @@ abbrev mutual
   open_in_arm (more_arms when each others) n zero marks = open_nodes each n marks
   open_in_arm (more_arms when each others) n (suc place) marks = open_in_arm others (n + size each) place marks
 
--- of two, the first entry; else the first obstacle
+-- which of two comes next: the first entry; else the first obstacle
 abbrev pub first_next : CursorNext → CursorNext → CursorNext
 first_next (Entry entry) other = Entry entry
 first_next (Wait obstacle) (Entry entry) = Entry entry
@@ -99,7 +99,7 @@ first_next Whole other = other
 abbrev pub open_node_ready : Sights → OpenNode → CursorNext
 open_node_ready seen spot = node_ready seen spot.number spot.node (phase_of spot.progress)
 
--- the entry of the first of these that is ready; else the obstacle of the first
+-- the entry of the first of these open nodes that is ready; else the obstacle of the first of them
 abbrev pub first_among : Sights → List OpenNode → CursorNext
 first_among seen [] = Whole
 first_among seen (spot ∷ others) = first_next (open_node_ready seen spot) (first_among seen others)

@@ -16,7 +16,7 @@ abbrev pub has_role : Option (List ℕ) → PlainStep → Bool
 has_role None step = true
 has_role (Some role) step = same_name step.role role
 
--- from this number on, and of this role where one is given
+-- the step has the number `from` or a later one, and is of this role where one is given
 abbrev pub is_wanted : ℕ → Option (List ℕ) → ℕ → PlainStep → Bool
 is_wanted from role number step = nat_le from number && has_role role step
 
@@ -42,10 +42,10 @@ first_placed wanted (placed ∷ others) =
     if wanted placed.number placed.step then Some (running_step placed.number placed.step) else
     first_placed wanted others
 
--- the name alone
+-- the name alone of a step that was found
 abbrev pub name_of : Option RunningStep → Option (List ℕ)
 name_of found = option_map (λ step. step.name) found
 
--- the number and the name alone
+-- the number and the name alone of a step that was found
 abbrev pub placed_of : Option RunningStep → Option (ℕ × List ℕ)
 placed_of found = option_map (λ step. (step.number, step.name)) found

@@ -2,7 +2,7 @@
 use super::visitor::Visitor;
 use chart_core::{Arm, Condition, Node, Progress, Step};
 
-/// Two that look at open nodes: each of them looks at each node.
+/// Two visitors of open nodes: each of them looks at each node.
 #[derive(Drop)]
 pub struct Both<V: Visitor, W: Visitor> {
     pub one: V,

@@ -31,7 +31,7 @@ use std::marker::Model;
 use std::sync::Arc;
 
 /// How far a run of a valid chart has come: for each node, by its number. A cursor doesn't keep the entries that it
-/// took; it stands for a word of entries by the relation `StandsFor`.
+/// took; the relation `StandsFor` says which words of entries it stands for.
 #[derive(Drop)]
 pub struct Cursor {
     chart: Arc<Chart>,
@@ -61,7 +61,7 @@ impl Cursor {
     ///
     /// # Errors
     ///
-    /// AllocError where memory is wanting for one mark and one number for each node.
+    /// AllocError where there is no memory for one mark and one number for each node.
     #[tactic(auto, using(crate::proofs::Passing::after_none))]
     pub fn new(alloc: Global, chart: Arc<Chart>) -> Result<Cursor, AllocError>
         requires { IsValid (plain_chart chart.value) }
@@ -186,7 +186,7 @@ impl Cursor {
     ///
     /// # Errors
     ///
-    /// AllocError where memory is wanting for them.
+    /// AllocError where there is no memory for them.
     pub fn active_steps(&self, alloc: Global, from: u32) -> Result<Vec<RunningStep>, AllocError>
         ensures { (word : List LogEntry) → StandsFor (plain_chart self.now.chart) self.now.marks word
             → IfOk result (λ steps. steps.items
@@ -200,7 +200,7 @@ impl Cursor {
     ///
     /// # Errors
     ///
-    /// AllocError where memory is wanting for them.
+    /// AllocError where there is no memory for them.
     pub fn waiting_nodes<S: Seen>(
         &self,
         alloc: Global,

@@ -1,6 +1,6 @@
 //! The running steps of a chart whose services are to be held or unheld, by its marks.
 //!
-//! Which of them is told by flags, one for each node, by its number.
+//! Flags, one for each node by its number, say which of them were asked to hold already, or were held.
 ghost use Rattle.std.specs.Prelude.{◌≡◌, ◌+◌, ◌<◌, ◌≤◌, ◌^◌, length, if◌then◌else◌};
 ghost use Rattle.std.specs.List.{list_any};
 ghost use Rattle.chart_core.specs.Sizes.{HasSizes, sizes_of};
@@ -139,7 +139,7 @@ fn is_held(state: State) -> bool
     matches!(state, State::Held)
 }
 
-// What a step comes to whose service has this view and is owed an Unhold.
+// What comes next of a step whose service has this view and is owed an Unhold.
 fn unhold_row(step: &Step, tag: Name, view: &ServiceView) -> CursorNext
     ensures { result ≡ unhold_row (plain_step step.now) tag view.now }
 {
@@ -162,8 +162,8 @@ fn unhold_row(step: &Step, tag: Name, view: &ServiceView) -> CursorNext
     )
 }
 
-/// What a step comes to that was held, on the module of this tag, by what is seen of its service: an Unhold or what
-/// stands in its way; Whole where the service is over.
+/// What comes next of a step that was held, on the module of this tag, by what is seen of its service: an Unhold or
+/// what stands in its way; Whole where the service is over.
 pub fn unhold_step(step: &Step, tag: Name, sight: Sight) -> CursorNext
     ensures { result ≡ (if is_under_way sight then on_sight (plain_step step.now) tag sight
         (unhold_row (plain_step step.now) tag) else Whole) }
@@ -174,7 +174,7 @@ pub fn unhold_step(step: &Step, tag: Name, sight: Sight) -> CursorNext
     }
 }
 
-// What a step comes to that was held, where it runs.
+// What comes next of a step that was held, where it runs.
 fn unhold_running<S: Seen>(step: &Step, progress: Progress, seen: &S) -> CursorNext
     ensures { result ≡ unhold_running (S.sights seen.now) (plain_step step.now) (phase_of progress) }
 {

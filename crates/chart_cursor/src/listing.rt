@@ -104,7 +104,7 @@ pub struct WaitingNode {
     pub why: Why,
 }
 
-// The node with this number, where what it comes to is an obstacle.
+// The node with this number, where what comes next of it is an obstacle.
 fn waiting_in(number: u32, next: CursorNext) -> Option<WaitingNode>
     ensures { result ≡ waiting_in number next }
 {

@@ -11,7 +11,7 @@ pub struct Sought<T: Copy> {
 }
 
 impl<T: Copy> Sought<T> {
-    /// What stands at this place, from 0.
+    /// A search for the item at this place, from 0.
     pub fn at(place: u32) -> Sought<T>
         ensures { result ≡ record { left = place; found = None } }
     {
@@ -21,7 +21,7 @@ impl<T: Copy> Sought<T> {
         }
     }
 
-    /// Meets what one thing more comes to, if that is an item of the list.
+    /// Meets one thing more, if that is an item of the list.
     #[tactic(auto, using(crate::proofs::Listed::met_later))]
     pub fn meet(&mut self, item: Option<T>)
         ensures { self.new ≡ met item self.old }

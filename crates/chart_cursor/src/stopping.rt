@@ -1,4 +1,4 @@
-//! What an active step comes to where its batch is stopped.
+//! What a batch that is stopped does with an active step.
 ghost use Rattle.std.specs.Prelude.{◌≡◌};
 ghost use Rattle.chart_cursor.specs.NextEntry.{stop_step};
 
@@ -7,7 +7,7 @@ use chart_core::{LogEntry, Next, Why};
 use mtp_codes::{Command, Name, Speaker};
 use mtp_modes::permitted;
 
-/// What an active step of a batch that is stopped comes to, by what is seen of its service.
+/// What a batch that is stopped does with an active step, by what is seen of the step's service.
 pub fn stop_step(step: Name, service: Name, tag: Name, sight: Sight) -> Next
     ensures { result ≡ stop_step step service tag sight }
 {

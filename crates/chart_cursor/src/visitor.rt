@@ -9,7 +9,7 @@ pub trait Visitor {
     ghost use Rattle.chart_core.specs.declared.progress.Progress.TheVariants.{Untouched};
     ghost use Rattle.chart_cursor.specs.OpenNodes.{OpenNode};
 
-    /// What it is after one open node more.
+    /// What the visitor is after one open node more.
     ghost after: { Self → OpenNode → Self };
 
     /// Looks at a step that has come so far.

@@ -105,7 +105,7 @@ test_form value =
 abbrev pub has : List ℕ → Data → Bool
 has key value = is_some (get key value)
 
--- a condition by the first of these keys that is there, its parts by a form of their own
+-- a condition by the first key of a kind of condition that is there; the conditions in it have a form of their own
 unfoldable pub condition_by_key : (Data → ReadResult Formula) → Data → ReadResult Formula
 condition_by_key inner value =
     if has (codes "const") value then const_form value
@@ -232,7 +232,7 @@ loop_form inner value =
     nothing_but (codes "loop until") value >>= λ _.
     Ok (loop body until)
 
--- a node by the first of these keys that is there, the nodes in it by a form of their own
+-- a node by the first key of a kind of node that is there; the nodes in it have a form of their own
 unfoldable pub node_by_key : (Data → ReadResult Tree) → Data → ReadResult Tree
 node_by_key inner value =
     if has (codes "step") value then step_form value
@@ -265,7 +265,7 @@ chart_from roles root =
     under (codes "roles") (refused_if (repeats_by same_role roles) Repeated) >>= λ _.
     Ok (record { roles = roles; root = root })
 
--- a chart by the values that stand at the keys `roles` and `chart`
+-- a chart by the values at the keys `roles` and `chart`
 unfoldable pub chart_of : Data → Data → ReadResult PlainChart
 chart_of roles chart =
     under (codes "roles") (roles_of roles) >>= λ found.

@@ -69,7 +69,7 @@ step_keys named procedure role service settings =
 abbrev pub written_settings : List Setting → Data
 written_settings settings = array (items_of (map written_setting settings))
 
--- the key of a finish, where there is one, before the others
+-- the key of a finish, where there is one, before the other keys
 abbrev pub finish_first : Option Formula → Members → Members
 finish_first None others = others
 finish_first (Some finish) others = member (codes "finish") (written_formula finish) others

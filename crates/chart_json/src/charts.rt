@@ -66,8 +66,8 @@ pub fn make_chart(alloc: Global, roles: Vec<Role>, root: Node) -> Result<Chart, 
     Ok(Chart { roles, root })
 }
 
-/// The chart by the values that stand at the keys `roles` and `chart`; else the first fault in reading order, with its
-/// path: of the roles, of the chart, or Repeated at `roles`. Whether the chart is valid is not asked.
+/// The chart by the values at the keys `roles` and `chart`; else the first fault in reading order, with its path: of
+/// the roles, of the chart, or Repeated at `roles`. Whether the chart is valid is not asked.
 #[tactic(auto, unfolding(crate::specs::Form::chart_of))]
 pub fn read_chart(alloc: Global, roles: &Value, chart: &Value) -> Result<Chart, JsonRefusal>
     ensures { ReadsAs plain_chart result (chart_of (view roles.now) (view chart.now)) }

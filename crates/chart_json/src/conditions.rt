@@ -81,7 +81,7 @@ fn read_test(alloc: Global, value: &Value) -> Result<Condition, JsonRefusal>
     })
 }
 
-// Of an object that is no condition of any kind.
+// The refusal of an object that is no condition of any kind.
 fn refused_kind(alloc: Global) -> Result<Condition, JsonRefusal>
     ensures { ReadsAs plain_condition result (under (codes "const") (found_here (Err FaultKind.Missing))) }
 {

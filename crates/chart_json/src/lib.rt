@@ -1,9 +1,9 @@
-//! Recipe charts in JSON: their roles, their nodes and their conditions, read and written.
+//! Reading and writing recipe charts in JSON: roles, nodes and conditions.
 //!
-//! The forms are `roles_of`, `tree_of` and `chart_of` in `specs/Form.antt`, the written forms stand in
+//! The forms are `roles_of`, `tree_of` and `chart_of` in `specs/Form.antt`, the written forms are in
 //! `specs/Written.antt`. `read_chart` gives what the form gives, the chart or the first fault in reading order with its
-//! path, and what is read is always formed; the form of what `write_chart` writes is the chart again. Whether a chart
-//! is valid is not asked here. It knows nothing of modules, plants or event lines.
+//! path, and a chart that is read is always formed; by its form, what `write_chart` writes is the chart again. Whether
+//! a chart is valid is not asked here. The crate knows nothing of modules, plants or event lines.
 //!
 //! Tried in `chart_examples`.
 #![tactic(auto)]

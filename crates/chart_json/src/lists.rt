@@ -1,4 +1,4 @@
-//! Lists that have a least size alone.
+//! Lists that have a least size and no greatest.
 
 ghost use Rattle.std.specs.Prelude.{◌≡◌, IsTrue};
 ghost use Rattle.serde_json.specs.View.{items_view, view};

@@ -29,7 +29,7 @@ fn read_step_node(alloc: Global, value: &Value) -> Result<Node, JsonRefusal>
     Ok(Node::Step(step))
 }
 
-// Of an object that is no node of any kind.
+// The refusal of an object that is no node of any kind.
 fn refused_kind(alloc: Global) -> Result<Node, JsonRefusal>
     ensures { ReadsAs plain_node result (under (codes "step") (found_here (Err FaultKind.Missing))) }
 {

@@ -1,9 +1,9 @@
 //! Whether a list of log entries is a partial or a complete run of a chart (after IEC 61512-2, procedure function
 //! charts).
 //!
-//! It knows nothing of modules, batches or the way in which an entry came to be. Each call answers exactly the
-//! definition by cutting words: `IsPartial` and `IsComplete` of `chart_core`. An entry that is none of a run is in no
-//! run, so a list with one is neither.
+//! It knows nothing of modules, batches or the way in which an entry came to be. Each call answers exactly what the
+//! definition by cutting words says: `IsPartial` and `IsComplete` of `chart_core`. An entry of a kind that no run has,
+//! such as Stop or Hold, is in no run, so a list with one is neither.
 //!
 //! Tried in `chart_examples`.
 #![tactic(auto)]
@@ -38,7 +38,7 @@ fn take_all(chart: &Chart, marks: &mut [Progress], log: &[LogEntry]) -> bool
 ///
 /// # Errors
 ///
-/// AllocError where memory is wanting for one mark for each node.
+/// AllocError where there is no memory for one mark for each node.
 pub fn is_part(alloc: Global, chart: &Chart, log: &[LogEntry]) -> Result<bool, AllocError>
     requires { IsValid (plain_chart chart.now) }
     ensures { IfOk result (λ answer. IsTrue answer ↔ IsPartial (plain_chart chart.now) log.now) }
@@ -65,7 +65,7 @@ fn ends(chart: &Chart, marks: &mut [Progress], log: &[LogEntry]) -> bool
 ///
 /// # Errors
 ///
-/// AllocError where memory is wanting for one mark for each node.
+/// AllocError where there is no memory for one mark for each node.
 pub fn is_whole(alloc: Global, chart: &Chart, log: &[LogEntry]) -> Result<bool, AllocError>
     requires { IsValid (plain_chart chart.now) }
     ensures { IfOk result (λ answer. IsTrue answer ↔ IsComplete (plain_chart chart.now) log.now) }

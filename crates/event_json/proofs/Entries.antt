@@ -19,7 +19,7 @@ use Rattle.pol_events.proofs.Rising.{compared, first_before, leads, less, rise_f
 use Rattle.event_json.specs.Ranges.{is_bind_in_range}
 use Rattle.event_json.specs.Written.{bind_members}
 
--- the last of rising binds stands behind the first
+-- the last of rising binds comes behind the first
 last_behind : (bind last : Bind) (binds rest : List Bind) → rise (bind ∷ (binds ++ last ∷ rest)) ≡ true
     → compared last bind ≡ Greater
 last_behind bind last binds rest rising =
@@ -30,7 +30,7 @@ last_behind bind last binds rest rising =
     let here = and_parts (stands_before bind last) (list_all (stands_before bind) rest) later.1 in
     nat_list_cmp_total.antisymm last.role bind.role ∙ ap ordering_reverse (less (compared bind last) here.0)
 
--- a bind that stands behind all others goes last
+-- a bind that comes behind all others goes last
 put_last : (binds : List Bind) (bind : Bind) (rest : List Bind) → rise (binds ++ bind ∷ rest) ≡ true
     → put bind.role (string bind.tag) (bind_members binds) ≡ bind_members (binds ++ bind ∷ [])
 put_last [] bind rest rising = refl

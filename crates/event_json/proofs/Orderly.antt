@@ -43,11 +43,11 @@ none_orderly key value =
     (told_inside_if_there (λ found. AreOrderly (unwrap_or found [])) key binds_of refl binds_orderly value)
     (λ found orderly. orderly)
 
--- the binds stand as in a line
+-- the binds are as in a line
 abbrev pub IsAllocation : PlainAllocation → Type 0
 IsAllocation binds = is_allocation binds ≡ true
 
--- two lists of which no role stands in both
+-- two lists of which no role is in both
 pub allocation_orderly : (held watched : List Bind) → AreOrderly held → AreOrderly watched
     → IfOk (allocation_from (record { held = held; watched = watched })) IsAllocation
 allocation_orderly held watched first second = go (shares_a_role (record { held = held; watched = watched })) refl

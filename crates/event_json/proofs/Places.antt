@@ -1,4 +1,4 @@
--- Where a field stands among others.
+-- The place of a field among others.
 use Rattle.std.proofs.Common.{arith, ◌≡◌, ◌≤◌, ℕ, Bool, true, false, not, cond, List, [], ◌∷◌, length, map, take, drop}
 use Rattle.std.proofs.Common.{Some, None, nat_lt, refl, ap, sym, ◌∙◌, ◌+◌}
 use Rattle.std.specs.Option.{unwrap_or}

@@ -18,7 +18,7 @@ abbrev pub are_texts : Members → Bool
 are_texts no_members = true
 are_texts (member role tag rest) = is_some (as_str tag) && are_texts rest
 
--- there are at most 64 members
+-- the members, where they are at most 64
 abbrev pub few : Members → Finding Members
 few members = if nat_le (members_len members) MOST_BINDS then Ok members else Err OutOfRange
 
@@ -55,7 +55,7 @@ binds_or_none key value =
     nested_if_there key binds_of value >>= λ found.
     Ok (unwrap_or found [])
 
--- what a start holds and watches, unless a role stands in both
+-- what a start holds and watches, unless a role is both held and watched
 abbrev pub allocation_from : PlainAllocation → ReadResult PlainAllocation
 allocation_from binds =
     under (codes "watch") (refused_if (shares_a_role binds) Repeated) >>= λ _.

@@ -32,11 +32,11 @@ number_field key value = record { key = key; value = number value }
 abbrev pub readings_field : List ℕ → List Reading → PlainField
 readings_field key values = record { key = key; value = readings values }
 
--- the key stands before that of a field in byte order
+-- the key comes before that of a field in byte order
 abbrev pub stands_before : List ℕ → PlainField → Bool
 stands_before key other = is_lt (slice_cmp nat_cmp key other.key)
 
--- the fields with one more at its place: before the first whose key is greater
+-- the fields with one more field at its place: before the first whose key is greater
 abbrev pub placed : List PlainField → PlainField → List PlainField
 placed fields field = insert fields (position_or_len (stands_before field.key) fields) field
 

@@ -22,7 +22,7 @@ pub record PlainGuarded : Type 0 where
   pub event : PlainEvent
   pub person : Option (List ℕ)
 
--- the same, of what the code read
+-- what contracts see of an event that was read under a policy
 abbrev pub plain_guarded : Guarded → PlainGuarded
 plain_guarded guarded = record { event = plain_event guarded.event; person = guarded.by }
 
@@ -51,11 +51,11 @@ guarded_desk_in value =
 abbrev pub unnamed : ReadResult PlainEvent → ReadResult PlainGuarded
 unnamed read = read >>= λ event. Ok (record { event = event; person = None })
 
--- an event of this kind
+-- an event of this kind, as a line says it under a policy
 abbrev pub guarded_by : Data → EventKind → ReadResult PlainGuarded
 guarded_by value kind = if is_desk_kind kind then guarded_desk_in value else unnamed (event_by value kind)
 
--- an event: `ev` names its kind, and then come the fields of this kind
+-- an event under a policy: `ev` names its kind, and then come the fields of this kind
 unfoldable pub guarded_in : Data → ReadResult PlainGuarded
 guarded_in value =
     object_here value >>= λ _.

@@ -35,7 +35,7 @@ abbrev pub of_read : {X : Type 0} → (X → PlainEvent) → ReadResult X → Re
 of_read event (Ok read) = unless_faulty read (fault_within (event read))
 of_read event (Err fault) = Err (Json fault)
 
--- an event that was read so
+-- the event that was read, or the fault of the line
 abbrev pub of_line : ReadResult PlainEvent → Result PlainEvent LineFault
 of_line read = of_read (λ event. event) read
 
@@ -43,7 +43,7 @@ of_line read = of_read (λ event. event) read
 unfoldable pub event_of : List ℕ → Result PlainEvent LineFault
 event_of line = of_line (read_of line)
 
--- a refusal is the line's fault, or want of memory
+-- a refusal is the line's fault, or there was no memory
 abbrev pub Fails : {X : Type 0} → LineRefusal → Result X LineFault → Type 0
 Fails Memory said = Unit {0}
 Fails (Fault fault) said = said ≡ Err fault

@@ -1,4 +1,4 @@
--- What every event keeps that a program holds: its names are names, and its numbers have their widths.
+-- What every event of a program is: its names are names, and its numbers have their widths.
 use Rattle.std.specs.Prelude.{ℕ, List, Bool, ◌&&◌}
 use Rattle.std.specs.List.{list_all}
 use Rattle.mtp_codes.specs.Names.{is_name}
@@ -23,11 +23,11 @@ is_control_in_range control = is_between 0 greatest_u32 control.mask && is_betwe
 abbrev pub is_bind_in_range : Bind → Bool
 is_bind_in_range bind = is_name bind.role && is_name bind.tag
 
--- all of them are
+-- the roles and the tags of all binds, held and watched, are names
 abbrev pub is_allocation_in_range : PlainAllocation → Bool
 is_allocation_in_range binds = list_all is_bind_in_range binds.held && list_all is_bind_in_range binds.watched
 
--- an event has a stamp and a name, and what else its kind has
+-- an event's stamp, its name and what else its kind has are in range
 abbrev pub is_in_range : PlainEvent → Bool
 is_in_range (plug at tag description) = is_stamped at tag
 is_in_range (unplug at tag) = is_stamped at tag

@@ -25,7 +25,7 @@ pub record PlainRow : Type 0 where
 abbrev pub row : ℕ → List ℕ → List PlainField → PlainRow
 row number name fields = record { number = number; name = name; fields = fields }
 
--- each rule
+-- the row of each rule
 abbrev pub rule_row : Rule → PlainRow
 rule_row TagTaken = row 1 (codes "TagTaken") []
 rule_row (NoModule tag) = row 2 (codes "NoModule") (text_field (codes "tag") tag ∷ [])

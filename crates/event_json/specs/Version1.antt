@@ -1,4 +1,4 @@
--- What a line of a journal of version 1 says. It differs in one event: a freeze doesn't say whether it holds.
+-- What a line of a journal of version 1 says. This version differs in one event: a freeze doesn't say whether it holds.
 use Rattle.std.specs.Prelude.{ℕ, false, List, codes, Result}
 use Rattle.serde_json.specs.Data.{Data}
 use Rattle.mtp_json.specs.Form.{required, object_here}

@@ -11,7 +11,7 @@ ghost use Rattle.event_json.specs.Fields.{readings_field, text_field};
 use arrayvec::ArrayVec;
 use mtp_codes::{Name, Reading, State};
 
-/// How many fields there are at most.
+/// The most fields that a rule, a log entry or an obstacle has.
 pub const MOST_FIELDS: usize = 5;
 
 /// The value of a field.
@@ -33,7 +33,7 @@ pub struct Field<'a> {
 }
 
 impl Default for Field<'_> {
-    // What lies in a room that holds no field yet.
+    // What is in a place that holds no field yet.
     fn default() -> Self {
         Field {
             key: "",
@@ -103,7 +103,7 @@ impl<'a> Fields<'a> {
         Fields { items }
     }
 
-    /// With a text behind them.
+    /// These fields with a text behind them.
     pub fn text(self, key: &'static str, text: &'a str) -> Fields<'a>
         requires { length (fields_of self) < MOST_FIELDS }
         ensures fields { fields_of result ≡ fields_of self.entry ++ text_field key.now text.now ∷ [] }
@@ -112,7 +112,7 @@ impl<'a> Fields<'a> {
         self.with(key, FieldValue::Text(text))
     }
 
-    /// With a name behind them.
+    /// These fields with a name behind them.
     pub fn name(self, key: &'static str, name: &'a Name) -> Fields<'a>
         requires { length (fields_of self) < MOST_FIELDS }
         ensures fields { fields_of result ≡ fields_of self.entry ++ text_field key.now name.now ∷ [] }
@@ -122,7 +122,7 @@ impl<'a> Fields<'a> {
         self.text(key, name.as_str())
     }
 
-    /// With a whole number behind them.
+    /// These fields with a whole number behind them.
     pub fn number(self, key: &'static str, number: u32) -> Fields<'a>
         requires { length (fields_of self) < MOST_FIELDS }
         ensures fields { fields_of result ≡ fields_of self.entry ++ number_field key.now number ∷ [] }
@@ -131,7 +131,7 @@ impl<'a> Fields<'a> {
         self.with(key, FieldValue::Number(number))
     }
 
-    /// With the code of a state behind them.
+    /// These fields with the code of a state behind them.
     pub fn state(self, key: &'static str, state: State) -> Fields<'a>
         requires { length (fields_of self) < MOST_FIELDS }
         ensures fields { fields_of result ≡ fields_of self.entry ++ number_field key.now (state_number state) ∷ [] }
@@ -140,7 +140,7 @@ impl<'a> Fields<'a> {
         self.number(key, state.code())
     }
 
-    /// With readings behind them. It reads each, so that their width is known.
+    /// These fields with readings behind them. Each is looked at, so that its width is known.
     pub fn readings(self, key: &'static str, readings: &'a [Reading]) -> Fields<'a>
         requires { length (fields_of self) < MOST_FIELDS }
         ensures fields { fields_of result ≡ fields_of self.entry ++ readings_field key.now readings.now ∷ [] }

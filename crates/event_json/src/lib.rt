@@ -1,10 +1,11 @@
-//! The lines of a journal: the events that they say, and how events, refusals and their fields are written.
+//! Reading and writing the lines of a journal: which event a line says, and how events, refusals and their fields are
+//! written.
 //!
 //! The form of each of the fifteen kinds of line is in `specs/Forms.antt`. `read_event` gives the event that a line
 //! says, or the first fault in reading order, and last the fault of a recipe's chart; each text of the value that
 //! `event_value` writes is a line that says the same event. `read_guarded` reads the lines of a journal whose commands
 //! of the desk name who asks, and `read_event_of_version_1` those of a journal of version 1. What a line says is
-//! orderly (`lines_are_orderly`). What an event is stands in `pol_events`; this crate knows nothing of a plant.
+//! orderly (`lines_are_orderly`). What an event is, `pol_events` defines; this crate knows nothing of a plant.
 //!
 //! Tried in `event_examples`.
 #![tactic(auto)]

@@ -7,7 +7,7 @@ ghost use Rattle.event_json.specs.RuleTable.{row, plain_row, rule_row};
 use crate::fields::Fields;
 use pol_events::Rule;
 
-/// What is told of a refusal by a rule.
+/// What an answer says of a refusal by a rule.
 #[derive(Drop)]
 pub struct RuleRow<'a> {
     /// The rule's number, from 1 to 40.

@@ -49,7 +49,7 @@ fn watching_object(
     json!(in alloc; {"at": at, "batch": batch, "bind": bind, "ev": "start", "recipe": recipe, "watch": watch})
 }
 
-/// A start with every key of its form; `watch` stands there only where something is watched.
+/// A start with every key of its form; `watch` is there only where something is watched.
 pub fn write_start(
     alloc: Global,
     at: u64,

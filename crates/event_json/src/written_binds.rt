@@ -35,7 +35,7 @@ fn bind_members(alloc: Global, binds: &[Bind]) -> Result<Map<String, Value>, All
     Ok(members)
 }
 
-/// What a start binds, as an object from role to tag. The roles have to stand in byte order, each once.
+/// What a start binds, as an object from role to tag. The roles have to be in byte order, each once.
 #[tactic(auto, unfolding(crate::specs::Written::written_binds))]
 pub fn write_binds(alloc: Global, binds: &[Bind]) -> Result<Value, AllocError>
     requires { IsTrue (rise binds.now) }

@@ -34,8 +34,7 @@ of_value value.WrongKind = WrongKind
 of_value value.OutOfRange = OutOfRange
 
 -- What is wrong with demanding this of the procedure: it isn't there, it hasn't a parameter that is set, or it is
--- finished
--- by command where it completes by itself and the other way round; else the first value that doesn't fit.
+-- finished by command where it completes by itself and the other way round; else the first value that doesn't fit.
 abbrev pub procedure_fault : List Setting → Bool → Option PlainProcedure → Option StepFault
 procedure_fault settings finishes None = Some NotCovered
 procedure_fault settings finishes (Some procedure) =

@@ -1,4 +1,4 @@
--- The tests that stand in the conditions of a chart, in chart order.
+-- The tests in the conditions of a chart, in chart order.
 use Rattle.std.specs.Prelude.{ℕ, List, [], ◌∷◌, ◌++◌, Option, Some, None}
 use Rattle.mtp_codes.specs.declared.value.Reading.{Reading}
 use Rattle.chart_core.specs.Formulas.{Formula, Formulas, constant, all_of, any_of, not_of, test, no_formulas}

@@ -66,7 +66,7 @@ desk_text_at None bytes kind means read is = absurd cc
 desk_text_at (Some found) bytes kind means read is =
     let same : found ≡ kind = cc in desk_row bytes kind_words kind refl (means ∙ ap Some same) is
 
--- what stands at `ev` where the kind is of the desk
+-- what is at `ev` where the kind is of the desk
 desk_word_at : (found : Option Data) (kind : EventKind)
     → under (codes "ev") (here (present (word kind_words) found)) ≡ Ok kind
     → is_desk_kind kind ≡ true → found ≡ Some (string (codes "desk"))

@@ -21,7 +21,7 @@ use Rattle.named_lines.specs.Named.{PlainNamed, given_by, named_in, named_of, of
 use Rattle.named_lines.specs.Named.{person_in, person_of, some_person}
 use Rattle.named_lines.specs.Without.{without}
 
--- the text that stands at a key, if one does
+-- the text that is at a key, if there is one
 abbrev text_of : Option Data → Option (List ℕ)
 text_of found = option_and_then as_str found
 

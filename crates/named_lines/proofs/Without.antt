@@ -1,4 +1,4 @@
--- What stands at the keys of a value from which a key was taken out.
+-- What is at the keys of a value from which a key was taken out.
 use Rattle.std.proofs.Common.{◌≡◌, ◌&&◌, ℕ, List, [], ◌∷◌, ◌++◌, Bool, true, false}
 use Rattle.std.proofs.Common.{true≢false, Option, Some, None, Ok, Err}
 use Rattle.std.proofs.Common.{option_map}
@@ -110,9 +110,9 @@ still_object out (string bytes) = refl
 still_object out (array values) = refl
 still_object out (object found) = refl
 
--- ---- keys that may stand there
+-- ---- keys that may be there
 
--- a key that may not stand there is no member's
+-- a key that may not be there is no member's
 unlisted_at : (order : Ordering) (keys key name : List ℕ) (value : Data) (rest : Option Data)
     → slice_cmp nat_cmp key name ≡ order → is_listed keys key ≡ false → is_listed keys name ≡ true → rest ≡ None
     → match_ordering order rest (Some value) rest ≡ None
@@ -122,7 +122,7 @@ unlisted_at Equal keys key name value rest is out here none =
     absurd (true≢false (sym here ∙ ap (is_listed keys) (sym same) ∙ out))
 unlisted_at Greater keys key name value rest is out here none = none
 
--- members whose keys may all stand there have no other
+-- members whose keys may all be there have no other
 unlisted_member : (keys key : List ℕ) (members : Members) → is_listed keys key ≡ false
     → all_listed keys members ≡ true → get_member key members ≡ None
 unlisted_member keys key no_members out listed = refl
@@ -131,7 +131,7 @@ unlisted_member keys key (member name value others) out listed =
     unlisted_at (slice_cmp nat_cmp key name) keys key name value (get_member key others) refl out parts.0
     (unlisted_member keys key others out parts.1)
 
--- of the keys of the members, each may stand there or not
+-- of the keys of the members, each may be there or not
 unlisted_found : (listed : Bool) (keys key : List ℕ) (found : Members) → all_listed keys found ≡ listed
     → is_listed keys key ≡ false → nothing_but keys (object found) ≡ Ok tt → get_member key found ≡ None
 unlisted_found true keys key found is out only = unlisted_member keys key found out is
@@ -176,18 +176,18 @@ plain_words = refl
 abbrev is_word : List ℕ → List ℕ → Bool
 is_word name word = bytes_eq word name
 
--- another name than `by` may stand in both
+-- another name than `by` may occur in both
 other_listed : (name : List ℕ) → is_word name (codes "by") ≡ false
     → is_listed (codes "ev at by tag service CommandOp") name ≡ is_listed (codes "ev at tag service CommandOp") name
 other_listed name other =
     ap (list_any (is_word name)) named_words ∙ skipped (is_word name) front_words back_words (codes "by") other
     ∙ ap (list_any (is_word name)) (sym plain_words)
 
--- `by` may stand in the first
+-- `by` may occur in the first
 by_listed : (name : List ℕ) → codes "by" ≡ name → is_listed (codes "ev at by tag service CommandOp") name ≡ true
 by_listed name same = ap (is_listed (codes "ev at by tag service CommandOp")) (sym same)
 
--- a key may stand in a command of the desk that names its person, or is `by`
+-- a key may occur in a command of the desk that names its person, or is `by`
 desk_listed_at : (taken : Bool) (name : List ℕ) (value : Data) (others : Members) → bytes_eq (codes "by") name ≡ taken
     → all_listed (codes "ev at by tag service CommandOp") others
     ≡ all_listed (codes "ev at tag service CommandOp") (without_member (codes "by") others)

@@ -1,4 +1,4 @@
--- What lines say here, against what they say in a journal and under a policy.
+-- What lines say in which any event may name who gives it, beside what they say in a journal and under a policy.
 use Rattle.std.specs.Prelude.{◌≡◌, ℕ, List, Option, Some, None, codes, Result, Ok, Err, option_and_then}
 use Rattle.serde_json.specs.Data.{Data, string}
 use Rattle.serde_json.specs.Find.{as_str, get}
@@ -9,12 +9,12 @@ use Rattle.event_json.specs.declared.fault.LineFault.{LineFault}
 use Rattle.event_json.specs.Guarded.{PlainGuarded}
 use Rattle.named_lines.specs.Named.{PlainNamed}
 
--- what stands at a key of a value that was found
+-- what is at a key of a value that was found
 abbrev pub found_at : List ℕ → Finding Data → Option Data
 found_at key (Ok value) = get key value
 found_at key (Err kind) = None
 
--- what stands at a key of the object that a line is, if it is one
+-- what is at a key of the object that a line is, if it is one
 abbrev pub value_at : List ℕ → List ℕ → Option Data
 value_at key line = found_at key (json_of line)
 
@@ -31,7 +31,7 @@ abbrev pub by_nobody : Result PlainEvent LineFault → Result PlainNamed LineFau
 by_nobody (Ok event) = Ok (record { event = event; person = None })
 by_nobody (Err fault) = Err fault
 
--- what is said under a policy
+-- what is said under a policy, as an event that may name a person
 abbrev pub as_guarded : Result PlainGuarded LineFault → Result PlainNamed LineFault
 as_guarded (Ok guarded) = Ok (record { event = guarded.event; person = guarded.person })
 as_guarded (Err fault) = Err fault

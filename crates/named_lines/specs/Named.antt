@@ -22,7 +22,7 @@ pub record PlainNamed : Type 0 where
   pub event : PlainEvent
   pub person : Option (List ℕ)
 
--- the same, of what the code read
+-- what contracts see of an event that was read with who gives it
 abbrev pub plain_named : Named → PlainNamed
 plain_named named = record { event = plain_event named.event; person = named.by }
 

@@ -4,7 +4,7 @@ ghost use Rattle.event_json.specs.Guarded.{is_desk_kind};
 
 use event_json::EventKind;
 
-/// Whether it is the kind of a command of the desk.
+/// Whether a kind of event is that of a command of the desk.
 pub fn is_desk(kind: EventKind) -> bool
     ensures { result ≡ is_desk_kind kind }
 {

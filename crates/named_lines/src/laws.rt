@@ -18,13 +18,13 @@ pub fn desk_lines_are_alike()
     ensures { (line : List ℕ) → IsOfDesk line → named_of line ≡ as_guarded (guarded_of line) }
 {}
 
-/// What a line says under a policy it says here too.
+/// A line that is read under a policy says the same here.
 #[tactic(auto, using(crate::proofs::Alike::guarded_alike))]
 pub fn guarded_lines_are_alike()
     ensures { (line : List ℕ) (said : PlainGuarded) → guarded_of line ≡ Ok said → named_of line ≡ as_guarded (Ok said) }
 {}
 
-/// Whoever is said to give an event is whom `by` names, and where it names nobody, nobody is.
+/// The person who is said to give an event is the one whom `by` names; where `by` names nobody, nobody is.
 #[tactic(auto, using(crate::proofs::Persons::line_named))]
 pub fn persons_are_named()
     ensures { (line : List ℕ) (said : PlainNamed) → named_of line ≡ Ok said → said.person ≡ person_at line }

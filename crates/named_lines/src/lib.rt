@@ -5,8 +5,8 @@
 //! a journal. So a line that names nobody says what it says in a journal (`unnamed_lines_are_alike`), and a line that
 //! is read under a policy says the same here (`desk_lines_are_alike`, `guarded_lines_are_alike`); and whoever is said
 //! to give an event is whom `by` names (`persons_are_named`), someone for each command of the desk
-//! (`desk_commands_are_named`). `NamedLines` is this form of lines for the jobs over journals. What an event of each
-//! kind is the crate has from `event_json`; it knows nothing of a plant or of a policy.
+//! (`desk_commands_are_named`). `NamedLines` is this form of lines for the jobs over journals. The form of an event of
+//! each kind is that of `event_json`; this crate knows nothing of a plant or of a policy.
 //!
 //! Tried in `event_examples`.
 #![tactic(auto)]

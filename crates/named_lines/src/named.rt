@@ -46,8 +46,8 @@ fn told_from(alloc: Global, value: Value) -> Result<Named, LineRefusal>
     }
 }
 
-/// The event that the JSON value of a line says and who gives it; else its first fault, each as `read_named` answers it of
-/// the line.
+/// The event that the JSON value of a line says and who gives it; else its first fault, each as `read_named` answers it
+/// of the line.
 pub fn named_from(alloc: Global, value: Value) -> Result<Named, LineRefusal>
     ensures tells { TellsNamed result (of_named (named_in (view value))) }
     ensures orderly { IfOk result (λ named. IsTrue (is_orderly (plain_event named.event))) }

@@ -1,4 +1,4 @@
-//! Who gives an event, and the event without this.
+//! Who gives an event, and the value of an event without this person.
 ghost use Rattle.std.specs.Prelude.{◌≡◌, codes, IsTrue};
 ghost use Rattle.serde_json.specs.View.{members_view, view};
 ghost use Rattle.mtp_codes.specs.Names.{is_name};

@@ -24,7 +24,7 @@ pub role_given : (binds : PlainAllocation) (tag : List ℕ)
     → bound_role (given binds) tag ≡ option_or (bound_role binds.held tag) (bound_role binds.watched tag)
 role_given binds tag = found_append (λ bind. bind.role) (λ bind. bytes_eq bind.tag tag) binds.held binds.watched
 
--- ---- no role stands twice
+-- ---- no role occurs twice
 
 -- where no bind has the role, each bind's role is another
 none_has : (role : List ℕ) (binds : List Bind) → is_some (bound_tag binds role) ≡ false
@@ -40,7 +40,7 @@ none_has role (bind ∷ binds) none = go (bytes_eq bind.role role) refl none (no
     go true is none rest = cc
     go false is none rest = rw (apart_back bind.role role is, rest none) refl
 
--- two lists of which no role stands twice, nor in both, make one of which none does
+-- two lists of which no role occurs twice, nor in both, make one of which none does
 once_both : (held watched : List Bind) → roles_once held ≡ true → roles_once watched ≡ true
     → list_any (λ bind. is_some (bound_tag watched bind.role)) held ≡ false → roles_once (held ++ watched) ≡ true
 once_both [] watched one other apart = other

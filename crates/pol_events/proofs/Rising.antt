@@ -23,7 +23,7 @@ less Less is = refl
 less Equal is = absurd (true≢false (sym is))
 less Greater is = absurd (true≢false (sym is))
 
--- the bind stands before the first of the others, if there is one
+-- the bind comes before the first of the others, if there is one
 abbrev pub leads : Bind → List Bind → Bool
 leads bind [] = true
 leads bind (next ∷ binds) = stands_before bind next
@@ -33,7 +33,7 @@ pub rise_first : (bind : Bind) (binds : List Bind) → rise (bind ∷ binds) ≡
 rise_first bind [] = refl
 rise_first bind (next ∷ binds) = refl
 
--- where the binds rise, they stand in byte order of roles already
+-- where the binds rise, they are in byte order of roles already
 pub by_role_rising : (binds : List Bind) → rise binds ≡ true → by_role binds ≡ binds
 by_role_rising [] rising = refl
 by_role_rising (bind ∷ []) rising = refl
@@ -49,14 +49,14 @@ leads_placed bind other next binds Less before leading = before
 leads_placed bind other next binds Equal before leading = leading
 leads_placed bind other next binds Greater before leading = leading
 
--- so it leads them with a bind that it stands before
+-- so it leads them with a bind that it comes before
 leads_with : (bind other : Bind) (binds : List Bind) → stands_before bind other ≡ true → leads bind binds ≡ true
     → leads bind (with_bind other binds) ≡ true
 leads_with bind other [] before leading = before
 leads_with bind other (next ∷ binds) before leading = leads_placed bind other next binds
     (compared other next) before leading
 
--- what compares as greater stands behind
+-- what compares as greater comes behind
 reversed : (bind next : Bind) → compared bind next ≡ Greater → stands_before next bind ≡ true
 reversed bind next after = rw (nat_list_cmp_total.antisymm next.role bind.role, after) refl
 
@@ -105,7 +105,7 @@ pub by_role_few : (binds : List Bind) → length (by_role binds) ≤ length bind
 by_role_few [] = omega arith
 by_role_few (bind ∷ binds) = omega (arith, length_with bind (by_role binds), by_role_few binds)
 
--- what stands before the first of rising binds stands before each
+-- what comes before the first of rising binds comes before each
 before_each : (bind next : Bind) (binds : List Bind) → stands_before bind next ≡ true → rise (next ∷ binds) ≡ true
     → list_all (stands_before bind) (next ∷ binds) ≡ true
 before_each bind next [] before rising = rw before refl
@@ -116,14 +116,14 @@ before_each bind next (other ∷ binds) before rising =
     (less (compared next other) parts.0)) in
     rw (before, before_each bind other binds further parts.1) refl
 
--- the first of rising binds stands before each of the others
+-- the first of rising binds comes before each of the others
 pub first_before : (bind : Bind) (binds : List Bind) → rise (bind ∷ binds) ≡ true
     → list_all (stands_before bind) binds ≡ true
 first_before bind [] rising = refl
 first_before bind (next ∷ binds) rising = let parts =
     and_parts (stands_before bind next) (rise (next ∷ binds)) rising in before_each bind next binds parts.0 parts.1
 
--- a bind that stands before another names another role
+-- a bind that comes before another names another role
 unlike : (bind other : Bind) → stands_before bind other ≡ true → bytes_eq bind.role other.role ≡ false
 unlike bind other before = sym (is_eq-slice_cmp bind.role other.role) ∙ ap is_eq (less (compared bind other) before)
 

@@ -17,11 +17,11 @@ use Rattle.pol_events.specs.declared.event.Bind.{Bind}
 abbrev pub role_unbound : List Bind → List (List ℕ) → Option Rule
 role_unbound binds roles = option_map RoleUnbound (find (λ role. is_none (bound_tag binds role)) roles)
 
--- the first bind whose role is none of these
+-- the role of the first bind whose role is none of these
 abbrev pub unknown_role : List Bind → List (List ℕ) → Option (List ℕ)
 unknown_role binds roles = option_map (λ bind. bind.role) (find (λ bind. not (is_among roles bind.role)) binds)
 
--- the one of two names that stands first in byte order
+-- the one of two names that comes first in byte order
 abbrev pub first_name : Option (List ℕ) → Option (List ℕ) → Option (List ℕ)
 first_name None other = other
 first_name (Some name) None = Some name

@@ -16,11 +16,11 @@ pub record PlainAllocation : Type 0 where
   pub held : List Bind
   pub watched : List Bind
 
--- what contracts see of it
+-- what contracts see of an allocation
 abbrev pub plain_allocation : Allocation → PlainAllocation
 plain_allocation allocation = record { held = allocation.held.now; watched = allocation.watched.now }
 
--- all of its binds
+-- all binds of an allocation: the held ones, then the watched ones
 abbrev pub given : PlainAllocation → List Bind
 given binds = binds.held ++ binds.watched
 
@@ -41,7 +41,7 @@ pub record ArePaired (binds : List Bind) : Type 0 where
   pub by_role : (bind : Bind) → Contains binds bind → bound_tag binds bind.role ≡ Some bind.tag
   pub by_tag : (bind : Bind) → Contains binds bind → bound_role binds bind.tag ≡ Some bind.role
 
--- it is this tag
+-- there is a tag, and it is this one
 abbrev pub is_tag : List ℕ → Option (List ℕ) → Bool
 is_tag tag None = false
 is_tag tag (Some other) = same_name other tag

@@ -61,6 +61,6 @@ plain_event (ExchangeCancel at tag ticket) = exchange_cancel at tag ticket
 abbrev pub plain_entry : Entry → PlainEntry
 plain_entry entry = record { event = plain_event entry.event; answer = entry.answer }
 
--- what contracts see of a plant's entries, which stand from the oldest on: the history, the newest entry first
+-- what contracts see of a plant's entries, which are kept from the oldest on: the history, the newest entry first
 abbrev pub plain_history : List Entry → List PlainEntry
 plain_history entries = reverse (map plain_entry entries)

@@ -1,4 +1,5 @@
--- Rules that a module by itself decides: its description, what it told last, and the ticket under which it is away.
+-- Rules that a module by itself decides: by its description, by what it reported last, and by the ticket under which it
+-- is away.
 use Rattle.std.specs.Prelude.{ℕ, Bool, not, ◌||◌, ◌==◌, List, [], ◌∷◌, map, Option, is_none, option_and_then}
 use Rattle.std.specs.Prelude.{option_map}
 use Rattle.mtp_codes.specs.Faults.{when, first_of}

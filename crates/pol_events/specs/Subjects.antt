@@ -1,4 +1,4 @@
--- Whom an event is of.
+-- The module, batch or recipe that an event is of.
 use Rattle.std.specs.Prelude.{ℕ, List, Option, None, Some, if◌then◌else◌}
 use Rattle.pol_events.specs.Accepted.{is_accepted}
 use Rattle.pol_events.specs.Events.{PlainEntry, PlainEvent, plug, unplug, report, variable, recipe, start, advance}
@@ -7,7 +7,7 @@ use Rattle.pol_events.specs.Events.{exchange_cancel}
 use Rattle.pol_events.specs.declared.subject.Subject.{Subject as Told}
 use Rattle.pol_events.specs.declared.subject.Subject.TheVariants.{Module, Batch, Recipe}
 
--- whom an event is of
+-- the subject of an event: a module, a batch or a recipe
 pub data Subject : Type 0 where
   of_module : (tag : List ℕ) → Subject
   of_batch : (batch : List ℕ) → Subject

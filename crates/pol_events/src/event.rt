@@ -50,7 +50,7 @@ pub enum Event {
         chart: Arc<Chart>,
     },
     /// A batch of a recipe is started: it holds the modules that it binds, and only reads the variables of those that
-    /// it watches. Both stand in byte order of the roles.
+    /// it watches. Both are in byte order of the roles.
     Start {
         at: u64,
         batch: Name,

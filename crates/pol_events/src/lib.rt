@@ -1,9 +1,9 @@
-//! What happens in a plant and what it is answered: events, rules, answers, and the pairs of both that a history is
-//! made of.
+//! The events of a plant, the plant's answers, the rules by which it refuses an event, and the pairs of an event and
+//! its answer that a history is made of.
 //!
-//! An event of a line is orderly (`specs/Orderly.antt`): charts are valid, and no role of a start stands twice, held or
-//! watched. This crate knows no text form (that is `event_json`), and nothing of the plant's state: which answer an
-//! event gets is said in `pol_history`.
+//! An event that a line says is orderly (`specs/Orderly.antt`): charts are valid, and no role of a start occurs twice,
+//! held or watched. This crate knows no text form (that is `event_json`), and nothing of the plant's state: which
+//! answer an event gets is defined in `pol_history`.
 //!
 //! Tried in `event_examples`.
 #![tactic(auto)]

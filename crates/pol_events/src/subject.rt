@@ -1,4 +1,4 @@
-//! Whom an event is of.
+//! The module, batch or recipe that an event is of.
 ghost use Rattle.std.specs.Prelude.{◌≡◌};
 ghost use Rattle.pol_events.specs.Events.{plain_entry, plain_event};
 ghost use Rattle.pol_events.specs.Subjects.{accepted_batch, accepted_tag, plain_subject, subject};
@@ -6,7 +6,7 @@ ghost use Rattle.pol_events.specs.Subjects.{accepted_batch, accepted_tag, plain_
 use crate::event::{Entry, Event};
 use mtp_codes::Name;
 
-/// Whom an event is of.
+/// The module, batch or recipe that an event is of.
 #[derive(Clone, Copy, Debug, PartialEq, Eq)]
 pub enum Subject {
     /// The module of this tag.

@@ -110,7 +110,7 @@ first_orderly : (line : List ℕ) (event : PlainEvent) → event_of_version_1 li
 first_orderly line (freeze at batch hold) says = refl
 first_orderly line event says = line_orderly line event (line_alike line event says refl)
 
--- and so is what was told of the line
+-- and so is what was answered of the line
 pub told_orderly : (line : List ℕ) (result : Result Event LineRefusal) → Tells result (event_of_version_1 line)
     → IfOk result (λ event. IsTrue (is_orderly (plain_event event)))
 told_orderly line (Ok event) tells = first_orderly line (plain_event event) tells

@@ -31,7 +31,7 @@ use Rattle.pol_lines.proofs.Members.{begins_leaf, member_parts, plain_key}
 use Rattle.pol_lines.proofs.Cutting.{reads_last}
 use Rattle.pol_lines.proofs.Printed.{begins_object, begins_within, opens_more, opens_none}
 
--- ---- what stands at a name
+-- ---- what is at a name
 
 -- what is put at a name is found there, and else what was found before
 found_put : (name key : List ℕ) (value : Data) (found : Members) (same : Bool) → bytes_eq name key ≡ same
@@ -190,7 +190,7 @@ pub unlike_with : (other name : List ℕ) (value : Option Data) (others : List (
 unlike_with other name None others differs = refl
 unlike_with other name (Some value) others differs = rw differs refl
 
--- a name that may stand there, with others that may
+-- a name that may be there, with others that may
 pub listed_with : (keys name : List ℕ) (value : Option Data) (others : List (List ℕ × Data))
     → is_listed keys name ≡ true
     → list_all (λ row. is_listed keys row.0) others ≡ true

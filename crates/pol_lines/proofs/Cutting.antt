@@ -30,7 +30,7 @@ front_and_rest text piece shorter same =
 pub last_cut : (text : List ℕ) (place : ℕ) → take (length text - place) (drop place text) ≡ drop place text
 last_cut text place = take_all _ _ (omega (arith, length-drop place text))
 
--- what stands behind a front is the last of the text
+-- what comes behind a front is the last of the text
 pub last_behind : (text front rest : List ℕ) → text ≡ front ++ rest → last_of (length rest) text ≡ rest
 last_behind text front rest is =
     let place : length text - length rest ≡ length front = omega (arith, ap length is, length-append front rest) in

@@ -121,7 +121,7 @@ swapped first here others =
     sym (and_assoc first here others) ∙ ap (λ both. both && others) (and_comm first here)
     ∙ and_assoc here first others
 
--- whether all keys may stand there, once one more is put, by its order
+-- whether all keys may be there, once one more is put, by its order
 all_listed_at : (order : Ordering) (keys key first : List ℕ) (value held : Data) (others : Members)
     → slice_cmp nat_cmp key first ≡ order
     → all_listed keys (put key value others) ≡ (is_listed keys key && all_listed keys others)
@@ -136,7 +136,7 @@ all_listed_at Greater keys key first value held others is later =
     ap (λ more. is_listed keys first && more) later
     ∙ swapped (is_listed keys first) (is_listed keys key) (all_listed keys others)
 
--- whether all keys may stand there, once one more is put
+-- whether all keys may be there, once one more is put
 all_listed_put : (keys key : List ℕ) (value : Data) (found : Members)
     → all_listed keys (put key value found) ≡ (is_listed keys key && all_listed keys found)
 all_listed_put keys key value no_members = refl
@@ -144,7 +144,7 @@ all_listed_put keys key value (member first held others) =
     all_listed_at (slice_cmp nat_cmp key first) keys key first value held others refl
     (all_listed_put keys key value others)
 
--- whether all keys of parts may stand there, those before among them
+-- whether all keys of parts may be there, those before among them
 listed_after : (keys : List ℕ) (parts : List Part) (found : Members)
     → all_listed keys (put_parts parts found)
     ≡ (list_all (λ part. is_listed keys part.key.now) parts && all_listed keys found)
@@ -158,7 +158,7 @@ listed_after keys (first ∷ parts) found =
     ∙ swapped rest (is_listed keys name) (all_listed keys found)
     ∙ sym (and_assoc (is_listed keys name) rest (all_listed keys found))
 
--- whether all keys of parts may stand there
+-- whether all keys of parts may be there
 pub parts_listed : (keys : List ℕ) (parts : List Part)
     → all_listed keys (put_parts parts no_members) ≡ list_all (λ part. is_listed keys part.key.now) parts
 parts_listed keys parts = listed_after keys parts no_members ∙ and-true _

@@ -32,7 +32,7 @@ starts (json.string text) more = refl
 starts (json.array trees) more = refl
 starts (json.object trees) more = refl
 
--- a comma stands before an item that follows another
+-- a comma comes before an item that follows another
 comma_before : (trees : json.Items) (tree : json.Json)
     → print_from true (items_tokens (then_tree trees tree)) ≡ 44 ∷ print_from false
     (items_tokens (then_tree trees tree))
@@ -81,7 +81,7 @@ abbrev then_value : Items → Data → Items
 then_value no_items value = item value no_items
 then_value (item first others) value = item first (then_value others value)
 
--- what one more tree means stands last
+-- what one more tree means comes last
 means_then : (trees : json.Items) (tree : json.Json) (values : Items) (value : Data) → of_items trees ≡ Some values
     → of_json tree ≡ Some value
     → of_items (then_tree trees tree) ≡ Some (then_value values value)
@@ -103,7 +103,7 @@ many_then : (values : Items) (value : Data) → items_len (then_value values val
 many_then no_items value = refl
 many_then (item first others) value = ap suc (many_then others value)
 
--- what the form gives of one more stands last
+-- what the form gives of one more comes last
 gives_then : {A : Type 0} (form : Data → ReadResult A) (place : ℕ) (values : Items) (value : Data)
     (found : List A) (last : A)
     → each form place values ≡ Ok found → form value ≡ Ok last

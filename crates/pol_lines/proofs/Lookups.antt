@@ -1,4 +1,4 @@
--- What stands at a key of an object in which members were put one after another.
+-- What is at a key of an object in which members were put one after another.
 use Rattle.std.proofs.Common.{◌≡◌, ℕ, ◌+◌, ◌<◌, List, [], ◌∷◌, ◌++◌, length, take, get_or, true, Some, Ok, Ordering}
 use Rattle.std.proofs.Common.{Less, Equal, Greater, refl, sym, ap, ◌∙◌, None, false, arith}
 use Rattle.std.proofs.lemmas.Bool.{and_parts}
@@ -106,7 +106,7 @@ put_aside key other value members differs =
 
 -- ---- the keys of an object
 
--- a key that may stand there, put before, at or behind a member whose key may
+-- a key that may be there, put before, at or behind a member whose key may
 listed_put_at : (order : Ordering) (keys name key : List ℕ) (value held : Data) (members : Members)
     → is_listed keys name ≡ true
     → is_listed keys key ≡ true → all_listed keys members ≡ true → all_listed keys (put name value members) ≡ true
@@ -116,7 +116,7 @@ listed_put_at Less keys name key value held rest here first others later = rw (h
 listed_put_at Equal keys name key value held rest here first others later = rw (first, others) refl
 listed_put_at Greater keys name key value held rest here first others later = rw (first, later) refl
 
--- a key that may stand there, put among others that may
+-- a key that may be there, put among others that may
 pub listed_put : (keys name : List ℕ) (value : Data) (members : Members) → is_listed keys name ≡ true
     → all_listed keys members ≡ true
     → all_listed keys (put name value members) ≡ true
@@ -126,7 +126,7 @@ listed_put keys name value (member key held members) here others =
     listed_put_at (slice_cmp nat_cmp name key) keys name key value held members here parts.0 parts.1
     (listed_put keys name value members here parts.1)
 
--- keys that may stand there, put one after another
+-- keys that may be there, put one after another
 pub listed_put_all : (keys : List ℕ) (members : List Member) (found : Members)
     → list_all (λ each. is_listed keys (key_text each.key)) members ≡ true
     → all_listed keys found ≡ true → all_listed keys (put_all members found) ≡ true
@@ -137,7 +137,7 @@ listed_put_all keys (first ∷ members) found here others =
     listed_put_all keys members (put (key_text first.key) (leaf_data first.leaf) found) parts.1
     (listed_put keys (key_text first.key) (leaf_data first.leaf) found parts.0 others)
 
--- an object of members whose keys may all stand there has no other key
+-- an object of members whose keys may all be there has no other key
 pub only_listed : (keys : List ℕ) (members : List Member) → list_all
     (λ each. is_listed keys (key_text each.key)) members ≡ true
     → only_keys keys (flat_data members) ≡ Ok tt

@@ -115,7 +115,7 @@ when_first deep text inner between then behind after condition node piece when n
       gives = arm_value asked.value body.value condition node asked.gives body.gives;
     })
 
--- the same where the node stands first
+-- the same where the node comes first
 pub then_first : (deep count : ℕ) (text inner between : List ℕ) (condition : Formula) (node : Tree)
     → text ≡ codes "{\"then\":" ++ inner → Reads tree_of deep inner node between
     → Closes condition_of 15 (codes ",\"when\":") between condition count → 15 ≤ deep

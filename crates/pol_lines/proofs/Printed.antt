@@ -13,7 +13,7 @@ use Rattle.serde_json.specs.Read.{of_json, of_members, read}
 use Rattle.mtp_json.specs.ReadResult.{ReadResult}
 use Rattle.pol_lines.specs.Begins.{Begins, Opens, Reads, member_pieces}
 
--- ---- a tree and what stands behind it
+-- ---- a tree and what comes behind it
 
 -- whether a value ends goes on behind the tokens so far
 fold_behind : (state : Bool) (tokens others : List token.Token) → fold (λ _ each. ends each) state (tokens ++ others)
@@ -54,7 +54,7 @@ abbrev pub then_member : json.Members → List ℕ → json.Json → json.Member
 then_member json.no_members key tree = json.member key tree json.no_members
 then_member (json.member first inner others) key tree = json.member first inner (then_member others key tree)
 
--- a comma stands before a member that follows another
+-- a comma comes before a member that follows another
 comma_before : (trees : json.Members) (key : List ℕ) (tree : json.Json)
     → print_from true (members_tokens (then_member trees key tree))
     ≡ 44 ∷ print_from false (members_tokens (then_member trees key tree))

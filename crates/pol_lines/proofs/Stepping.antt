@@ -55,7 +55,7 @@ step_of_parts members others named role service procedure settings finish is_nam
     let e8 = among.listed keys listed given.listed in
     rw (e1, e2, e3, e4, e5, e6, e7, given.finishes, e8, apart) refl
 
--- ---- what stands beside the flat members
+-- ---- what is beside the flat members
 
 -- a condition that is there or not, as plain data
 finish_is : (finish : Option Condition) → option_map plain_condition finish ≡ plain_finish finish

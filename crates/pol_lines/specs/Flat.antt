@@ -9,7 +9,7 @@ use Rattle.pol_lines.specs.Leaves.{is_leaf_in_range, leaf_data, leaf_piece}
 abbrev pub member_piece : Member → List ℕ
 member_piece member = key_piece member.key ++ leaf_piece member.leaf
 
--- the value is as a line holds it
+-- the value of a member is one that a flat line can hold
 abbrev pub is_member_in_range : Member → Bool
 is_member_in_range member = is_leaf_in_range member.leaf
 

@@ -5,7 +5,7 @@ use Rattle.event_json.specs.declared.kind.EventKind.TheVariants.{Plug, Unplug, R
 use Rattle.event_json.specs.declared.kind.EventKind.TheVariants.{Freeze, Thaw, Stop, Abandon, Desk, ExchangeBegin}
 use Rattle.event_json.specs.declared.kind.EventKind.TheVariants.{ExchangeEnd, ExchangeCancel}
 
--- the keys that may stand in a line of a kind
+-- the keys that may occur in a line of a kind
 abbrev pub keys_of : EventKind → List ℕ
 keys_of Plug = codes "ev at tag desc"
 keys_of Unplug = codes "ev at tag"

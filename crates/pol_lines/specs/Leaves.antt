@@ -15,7 +15,7 @@ leaf_piece (Whole z) = signed_decimal z
 leaf_piece (Bit true) = codes "true"
 leaf_piece (Bit false) = codes "false"
 
--- what the value means
+-- what a value means
 abbrev pub leaf_data : Leaf → Data
 leaf_data (Text bytes) = string bytes.now
 leaf_data (Whole z) = number (of_integer z)

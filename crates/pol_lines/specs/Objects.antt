@@ -16,7 +16,7 @@ use Rattle.pol_lines.specs.Begins.{Begins, Opens}
 use Rattle.pol_lines.specs.Flat.{put_all}
 use Rattle.pol_lines.specs.Keys.{IsNoKey, key_text}
 
--- members that were put one after another: flat ones in this order, and others between them, of which the last stands
+-- members that were put one after another: flat ones in this order, and others between them, of which the last comes
 -- first here
 pub record Among (members : List Member) (others : List (List ℕ × Data)) (found : Members) : Type 0 where
   pub flat : (key : Key) → get_member (key_text key) found ≡ get_member (key_text key) (put_all members no_members)
@@ -25,7 +25,7 @@ pub record Among (members : List Member) (others : List (List ℕ × Data)) (fou
       → list_all (λ row. is_listed keys row.0) others ≡ true → all_listed keys found ≡ true
   pub alone : others ≡ [] → found ≡ put_all members no_members
 
--- of an object of these members the form gives what was made
+-- the form gives what was made, of each object of these members
 abbrev pub Makes : {A : Type 0} → (Data → ReadResult A) → A → List Member → List (List ℕ × Data) → Type 0
 Makes form made members others = (found : Members) → Among members others found → form (object found) ≡ Ok made
 
@@ -48,12 +48,12 @@ abbrev pub Stands : ℕ → List ℕ → List Member → List (List ℕ × Data)
 Stands deep text members others (More rest) = Holds deep text members others rest.now
 Stands deep text members others (End rest) = IsObject deep text members others rest.now
 
--- the object ends there, and nothing stands behind it
+-- the cut is at the end of the object, and nothing comes behind it
 abbrev pub IsEnd : Cut → Type 0
 IsEnd (More rest) = ⊥
 IsEnd (End rest) = rest.now ≡ []
 
--- what stands from the end of a value on, where the cut lies behind it
+-- what comes from the end of a value on, where the cut lies behind the value
 abbrev pub cut_piece : Cut → List ℕ
 cut_piece (More rest) = 44 ∷ rest.now
 cut_piece (End rest) = 125 ∷ rest.now
@@ -63,12 +63,12 @@ pub record IsOther (name : List ℕ) : Type 0 where
   pub plain : list_all is_plain name ≡ true
   pub no_key : IsNoKey name
 
--- the others, with the value at a name if there is one
+-- the other members, with the value at a name if there is one
 abbrev pub with_value : List ℕ → Option Data → List (List ℕ × Data) → List (List ℕ × Data)
 with_value name None others = others
 with_value name (Some value) others = (name, value) ∷ others
 
--- between two cuts stands a value at a name, or nothing
+-- between two cuts is a value at a name, or nothing
 abbrev pub Passes : ℕ → List ℕ → Option Data → Cut → Cut → Type 0
 Passes deep name value before after =
     (text : List ℕ) (members : List Member) (others : List (List ℕ × Data))
@@ -79,14 +79,14 @@ abbrev pub GivesEach : {A : Type 0} → (Data → ReadResult A) → List A → O
 GivesEach form found None = found ≡ []
 GivesEach form found (Some values) = (each form 0 values ≡ Ok found) × (items_len values ≡ length found)
 
--- between two cuts stands a list at a name, of each item of which the form gives what was found; or nothing
+-- between two cuts is a list at a name, of each item of which the form gives what was found; or nothing
 pub record PassesList {A : Type 0} (form : Data → ReadResult A) (deep : ℕ) (name : List ℕ) (found : List A)
     (before after : Cut) : Type 0 where
   pub values : Option Items
   pub gives : GivesEach form found values
   pub passes : Passes deep name (option_map array values) before after
 
--- between two cuts stands a value at a name, of which the form gives what was found; or nothing
+-- between two cuts is a value at a name, of which the form gives what was found; or nothing
 pub record PassesValue {A : Type 0} (form : Data → ReadResult A) (deep : ℕ) (name : List ℕ) (found : Option A)
     (before after : Cut) : Type 0 where
   pub value : Option Data

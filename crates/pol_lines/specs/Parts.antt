@@ -34,7 +34,7 @@ simple (string bytes) = string bytes
 simple (array values) = null
 simple (object found) = object found
 
--- the same of each member
+-- the members with what is kept of each value: whole numbers, texts, truth values and objects; null for all others
 abbrev pub simple_members : Members → Members
 simple_members no_members = no_members
 simple_members (member key value others) = member key (simple value) (simple_members others)

@@ -47,7 +47,7 @@ abbrev pub at_key : List ℕ → Option FaultKind → ReadResult ⊤
 at_key key None = Ok tt
 at_key key (Some kind) = Err (record { kind = kind; path = part.Key key ∷ [] })
 
--- whether there was a fault
+-- the fault, if there was one, and nothing of what was read
 abbrev pub judged : {A : Type 0} → ReadResult A → ReadResult ⊤
 judged (Ok value) = Ok tt
 judged (Err fault) = Err fault
@@ -61,7 +61,7 @@ variable_judged value =
     judged (required (codes "value") scalar value) >>= λ _.
     nothing_but (keys_of Variable) value
 
--- that of a report
+-- the first fault of a report
 abbrev pub report_judged : Data → ReadResult ⊤
 report_judged value =
     required (codes "at") (count 0 greatest_u64) value >>= λ _.
@@ -70,7 +70,7 @@ report_judged value =
     control_in value >>= λ _.
     nothing_but (keys_of Report) value
 
--- that of an operator's command
+-- the first fault of an operator's command
 abbrev pub desk_judged : Data → ReadResult ⊤
 desk_judged value =
     required (codes "at") (count 0 greatest_u64) value >>= λ _.
@@ -79,7 +79,7 @@ desk_judged value =
     required (codes "CommandOp") (code command_codes) value >>= λ _.
     nothing_but (keys_of Desk) value
 
--- that of the cancelling of an exchange
+-- the first fault of the cancelling of an exchange
 abbrev pub cancel_judged : Data → ReadResult ⊤
 cancel_judged value =
     required (codes "at") (count 0 greatest_u64) value >>= λ _.
@@ -87,21 +87,21 @@ cancel_judged value =
     required (codes "ticket") (count 0 greatest_u32) value >>= λ _.
     nothing_but (keys_of ExchangeCancel) value
 
--- that of an event that names a tag and nothing more
+-- the first fault of an event that names a tag and nothing more
 abbrev pub tag_judged : Data → ReadResult ⊤
 tag_judged value =
     required (codes "at") (count 0 greatest_u64) value >>= λ _.
     required (codes "tag") name value >>= λ _.
     nothing_but (keys_of Unplug) value
 
--- that of an event that names a batch and nothing more
+-- the first fault of an event that names a batch and nothing more
 abbrev pub batch_judged : Data → ReadResult ⊤
 batch_judged value =
     required (codes "at") (count 0 greatest_u64) value >>= λ _.
     required (codes "batch") name value >>= λ _.
     nothing_but (keys_of Advance) value
 
--- the first fault of a flat line of a kind; none of the others
+-- the first fault of a flat line of a kind; no fault of the kinds that aren't judged here
 abbrev pub judged_by : Data → EventKind → ReadResult ⊤
 judged_by value Plug = Ok tt
 judged_by value Unplug = tag_judged value
@@ -119,7 +119,7 @@ judged_by value ExchangeBegin = tag_judged value
 judged_by value ExchangeEnd = Ok tt
 judged_by value ExchangeCancel = cancel_judged value
 
--- that of an operator's command under a policy
+-- the first fault of an operator's command under a policy
 abbrev pub named_desk_judged : Data → ReadResult ⊤
 named_desk_judged value =
     required (codes "at") (count 0 greatest_u64) value >>= λ _.
@@ -129,12 +129,12 @@ named_desk_judged value =
     required (codes "CommandOp") (code command_codes) value >>= λ _.
     nothing_but (codes "ev at by tag service CommandOp") value
 
--- that of a flat line of a kind, under a policy where `guarded` says so
+-- the first fault of a flat line of a kind, under a policy where `guarded` says so
 abbrev pub kind_judged : Bool → Data → EventKind → ReadResult ⊤
 kind_judged guarded value kind =
     if guarded && is_desk_kind kind then named_desk_judged value else judged_by value kind
 
--- the first fault of a flat line
+-- the first fault of a flat line, under a policy where `guarded` says so
 abbrev pub line_judged : Bool → Data → ReadResult ⊤
 line_judged guarded value =
     required (codes "ev") (word kind_words) value >>= λ kind.

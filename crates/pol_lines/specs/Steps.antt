@@ -1,4 +1,4 @@
--- What stands beside the flat members of a step.
+-- What a step has beside its flat members.
 use Rattle.std.specs.Prelude.{◌≡◌, ℕ, List, true, codes, Option, option_map, Ok}
 use Rattle.std.specs.List.{list_all}
 use Rattle.serde_json.specs.Data.{Data, Items, array}

@@ -80,7 +80,7 @@ fn description_in(
     })
 }
 
-/// The description at the front of a text, with how many bytes follow it: its variables stand behind its services.
+/// The description at the front of a text, with how many bytes follow it: its variables come behind its services.
 #[inline(never)]
 fn read_description(alloc: Global, text: &[u8]) -> Option<(Description, usize)>
     ensures { IfSome result (λ read. Reads description_of 7 text.now (plain_description read.0)

@@ -34,7 +34,7 @@ fn fault_at(alloc: Global, spot: Spot) -> Option<JsonFault>
     })
 }
 
-/// Whether nothing stands behind a value, and the line is text.
+/// Whether nothing comes behind a value, and the line is text.
 fn is_whole(rest: &[u8], line: &[u8]) -> bool
     ensures ended { IsTrue result → rest.now ≡ [] }
     ensures text { IsTrue result → IsUtf8 line.now }
@@ -91,7 +91,7 @@ fn line_fault(alloc: Global, line: &[u8], guarded: bool) -> Option<LineFault>
 }
 
 /// The fault of a compact line that says no event, in a journal of either version; None for some such lines, and for
-/// each that says one. It is read without a tree: a flat object, in which lists and null may stand too, or a list.
+/// each that says one. It is read without a tree: a flat object, in which lists and null may occur too, or a list.
 #[inline(never)]
 pub fn read_fault(alloc: Global, line: &[u8]) -> Option<LineFault>
     ensures journal { IfSome result (λ fault. event_of line.now ≡ Err fault) }
@@ -100,7 +100,8 @@ pub fn read_fault(alloc: Global, line: &[u8]) -> Option<LineFault>
     line_fault(alloc, line, false)
 }
 
-/// The same of a journal under a policy.
+/// The fault of a compact line that says no event, in a journal under a policy; None for some such lines, and for each
+/// that says one.
 #[inline(never)]
 pub fn read_guarded_fault(alloc: Global, line: &[u8]) -> Option<LineFault>
     ensures { IfSome result (λ fault. guarded_of line.now ≡ Err fault) }

@@ -1,4 +1,4 @@
-//! What stands at the keys of a flat line.
+//! What is at the keys of a flat line.
 ghost use Rattle.std.specs.Prelude.{◌≡◌, ◌≤◌, false, Ok, Some, IfSome, IsTrue, option_map};
 ghost use Rattle.serde_json.specs.Data.{string};
 ghost use Rattle.serde_json.specs.Find.{get};
@@ -19,7 +19,7 @@ use crate::pieces::is_word;
 use event_json::EventKind;
 use mtp_codes::{Command, Mode, Name, Origin, Reading, Short, State, Value};
 
-/// The value at a key: the last one, where the key stands more than once.
+/// The value at a key: the last one, where the key occurs more than once.
 #[inline(always)]
 fn leaf_at<'a>(members: &[Member<'a>], key: Key) -> Option<Leaf<'a>>
     ensures { option_map leaf_data result ≡ get (key_text key) (flat_data members.now) }
@@ -65,7 +65,7 @@ pub fn count_at(members: &[Member], key: Key, least: u64, most: u64) -> Option<u
     }
 }
 
-/// The state whose code stands at a key.
+/// The state whose code is at a key.
 #[inline(always)]
 pub fn state_at(members: &[Member], key: Key) -> Option<State>
     ensures { IfSome result (λ found. field (key_text key) (code state_codes) (flat_data members.now) ≡ Ok found) }
@@ -73,7 +73,7 @@ pub fn state_at(members: &[Member], key: Key) -> Option<State>
     State::of_code(count_at(members, key, 0, u32::MAX as u64)? as u32)
 }
 
-/// The command whose code stands at a key.
+/// The command whose code is at a key.
 #[inline(always)]
 pub fn command_at(members: &[Member], key: Key) -> Option<Command>
     ensures { IfSome result (λ found. field (key_text key) (code command_codes) (flat_data members.now) ≡ Ok found) }
@@ -96,7 +96,7 @@ pub fn mode_of(bytes: &[u8]) -> Option<Mode>
     }
 }
 
-/// The mode whose word stands at a key.
+/// The mode whose word is at a key.
 #[inline(always)]
 pub fn mode_at(members: &[Member], key: Key) -> Option<Mode>
     ensures { IfSome result (λ found. field (key_text key) (word mode_words) (flat_data members.now) ≡ Ok found) }
@@ -117,7 +117,7 @@ pub fn origin_of(bytes: &[u8]) -> Option<Origin>
     }
 }
 
-/// The source of commands whose word stands at a key.
+/// The source of commands whose word is at a key.
 #[inline(always)]
 pub fn origin_at(members: &[Member], key: Key) -> Option<Origin>
     ensures { IfSome result (λ found. field (key_text key) (word origin_words) (flat_data members.now) ≡ Ok found) }
@@ -125,7 +125,7 @@ pub fn origin_at(members: &[Member], key: Key) -> Option<Origin>
     origin_of(text_at(members, key)?)
 }
 
-/// The kind that a word names; the kinds of which a journal has most stand in front.
+/// The kind that a word names; the kinds of which a journal has most come first.
 pub fn kind_of(bytes: &[u8]) -> Option<EventKind>
     ensures { result ≡ meaning_of bytes.now kind_words }
 {
@@ -164,7 +164,7 @@ pub fn kind_of(bytes: &[u8]) -> Option<EventKind>
     }
 }
 
-/// The kind whose word stands at a key.
+/// The kind whose word is at a key.
 #[inline(always)]
 pub fn kind_at(members: &[Member], key: Key) -> Option<EventKind>
     ensures { IfSome result (λ found. field (key_text key) (word kind_words) (flat_data members.now) ≡ Ok found) }

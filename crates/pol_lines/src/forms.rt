@@ -13,7 +13,7 @@ pub trait LineForm {
     /// What a line says.
     type Said: Drop;
 
-    /// The same, as contracts see it.
+    /// What a line says, as contracts see it.
     ghost Plain: { Type 0 };
 
     /// What contracts see of what was read.

@@ -1,4 +1,4 @@
-//! The keys that may stand in a line of each kind.
+//! The keys that may occur in a line of each kind.
 ghost use Rattle.std.specs.Prelude.{◌≡◌};
 ghost use Rattle.std.specs.List.{list_all};
 ghost use Rattle.mtp_json.specs.Form.{is_listed};
@@ -9,7 +9,7 @@ use crate::flat::Member;
 use crate::key::Key;
 use event_json::EventKind;
 
-/// Whether a key may stand in a line of a kind.
+/// Whether a key may occur in a line of a kind.
 #[inline(always)]
 fn may_stand(kind: EventKind, key: Key) -> bool
     ensures { result ≡ is_listed (keys_of kind) (key_text key) }
@@ -50,7 +50,7 @@ fn may_stand(kind: EventKind, key: Key) -> bool
     }
 }
 
-/// Whether each member's key may stand in a line of a kind.
+/// Whether each member's key may occur in a line of a kind.
 #[inline(always)]
 pub fn only(kind: EventKind, members: &[Member]) -> bool
     ensures { result ≡ list_all (λ member. is_listed (keys_of kind) (key_text member.key)) members.now }

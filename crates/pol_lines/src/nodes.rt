@@ -129,7 +129,7 @@ fn read_par(alloc: Global, text: &[u8], levels: u32) -> Option<(Node, usize)>
     Some((in_parallel(nodes), rest.len()))
 }
 
-/// The arm at the front of a text, behind whose condition its node stands, with how many bytes follow it.
+/// The arm at the front of a text, whose node comes behind its condition, with how many bytes follow it.
 #[cycle(node)]
 fn read_when_first(alloc: Global, text: &[u8], levels: u32) -> Option<(Arm, usize)>
     ensures { IfSome result
@@ -143,7 +143,7 @@ fn read_when_first(alloc: Global, text: &[u8], levels: u32) -> Option<(Arm, usiz
     Some((of_arm(when, body), rest.len()))
 }
 
-/// The arm at the front of a text, behind whose node its condition stands, with how many bytes follow it.
+/// The arm at the front of a text, whose condition comes behind its node, with how many bytes follow it.
 #[cycle(node)]
 fn read_then_first(alloc: Global, text: &[u8], levels: u32) -> Option<(Arm, usize)>
     ensures { IfSome result

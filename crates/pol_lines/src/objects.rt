@@ -18,7 +18,7 @@ use std::alloc::Global;
 /// Where an object is cut: behind its opening brace or behind one of its members.
 #[derive(Clone, Copy)]
 pub enum Cut<'a> {
-    /// Behind the brace or a comma, with what stands from there on.
+    /// Behind the brace or a comma, with what comes from there on.
     More(&'a [u8]),
     /// Behind the closing brace, with what follows it.
     End(&'a [u8]),
@@ -45,7 +45,7 @@ fn behind(text: &[u8]) -> Option<Cut>
     }
 }
 
-/// Reads the flat members that stand behind a cut, in their order, as many as the list has room for; it answers the cut
+/// Reads the flat members that come behind a cut, in their order, as many as the list has room for; it answers the cut
 /// behind the last of them.
 #[inline(always)]
 pub fn read_flats<'a>(cut: Cut<'a>, members: &mut ArrayVec<Member<'a>, 9>) -> Cut<'a>

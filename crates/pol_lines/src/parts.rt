@@ -85,7 +85,7 @@ fn read_items(text: &[u8]) -> Option<&[u8]>
     None
 }
 
-/// How many bytes at the front of a text may stand in a number.
+/// How many bytes at the front of a text may be part of a number.
 fn number_end(text: &[u8]) -> usize
     ensures { result ≤ length text.now }
 {
@@ -113,7 +113,7 @@ fn is_float(numeral: &Numeral<'_>) -> bool
     }
 }
 
-/// Whether the digits write such a number.
+/// Whether the digits write a number that is no whole one of 64 bits, but a finite one.
 #[tactic(auto, using(crate::proofs::Keeping::number_of_plain))]
 fn is_inexact(digits: &[u8]) -> bool
     ensures { IsTrue result → IsFraction (number_of digits.now) }

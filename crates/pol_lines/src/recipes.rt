@@ -98,7 +98,7 @@ fn recipe_in(alloc: Global, members: &[Member], roles: Vec<Role>, root: Node) ->
     Some(Event::Recipe { at, recipe, chart })
 }
 
-/// The event that a line with a recipe says, where its roles come next: its chart stands behind them.
+/// The event that a line with a recipe says, where its roles come next: its chart comes behind them.
 #[inline(never)]
 pub fn read_recipe<'a>(
     alloc: Global,

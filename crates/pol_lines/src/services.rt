@@ -108,7 +108,7 @@ impl Alike for ProcedureFronts {
     }
 }
 
-/// What stands for the procedures of a service that names none.
+/// The procedures of a service that names none.
 fn only_procedures(alloc: Global) -> Option<Vec<Procedure>>
     ensures only { IfSome result (λ procedures. map plain_procedure procedures.items ≡ only_procedure ∷ []) }
     ensures one { IfSome result (λ procedures. length procedures.items ≡ 1) }

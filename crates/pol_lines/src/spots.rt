@@ -32,7 +32,7 @@ pub struct Spot {
     pub key: Option<Key>,
 }
 
-/// What is kept at a key: of the last one, where the key stands more than once.
+/// What is kept at a key: of the last one, where the key occurs more than once.
 fn held_at<'a>(parts: &[Part<'a>], key: Key) -> Option<Held<'a>>
     ensures { option_map held_data result ≡ get (key_text key) (parts_data parts.now) }
 {
@@ -172,7 +172,7 @@ fn are_listed(keys: &str, parts: &[Part]) -> bool
     parts.iter().all(|part| is_listed(keys, part.key))
 }
 
-/// Asks that no part has a key but these, which stand in one text with one space between neighbours.
+/// Asks that no part has a key but these, which are given in one text with one space between neighbours.
 #[tactic(auto, using(crate::proofs::Keeping::parts_listed))]
 fn nothing_but(parts: &[Part], keys: &str) -> Result<(), Spot>
     ensures { told result ≡ nothing_but keys.now (parts_data parts.now) }

@@ -117,7 +117,7 @@ fn step_in(members: &[Member], settings: Vec<Setting>, finish: Option<Condition>
     })
 }
 
-/// The step at the front of a text, with how many bytes follow it: its condition stands first or behind its settings.
+/// The step at the front of a text, with how many bytes follow it: its condition comes first or behind its settings.
 // Never inlined: each call of a node around the steps would else set up a step's lists.
 #[inline(never)]
 pub fn read_step(alloc: Global, text: &[u8]) -> Option<(Step, usize)>

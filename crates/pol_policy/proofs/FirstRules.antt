@@ -1,4 +1,4 @@
--- The first rule that is found of those that deny, and of those that allow, and what these two tell.
+-- The first rule that is found of those that deny, and of those that allow, and what these two say.
 use Rattle.std.proofs.Common.{◌≡◌, ◌&&◌, inl, inr, ⊎_elim, Bool, true, false, not, List, [], ◌∷◌, ◌++◌, Option}
 use Rattle.std.proofs.Common.{Some, None, refl, sym, ap, subst, cond}
 use Rattle.std.specs.Bool.{Decides}
@@ -8,7 +8,7 @@ use Rattle.pol_policy.proofs.Leading.{IsIn, any_in, in_some, some_in}
 
 -- ---- the first item that passes
 
--- an item, what stands before it, and that nothing there passes
+-- an item, what comes before it, and that nothing there passes
 pub record Found {A : Type 0} (test : A → Bool) (items : List A) (item : A) : Type 0 where
   pub before : List A
   pub after : List A
@@ -130,7 +130,7 @@ module _ {R : Type 0} (allows fits : R → Bool) (Fits : R → Type 0)
   abbrev pub Allow : List R → Type 0
   Allow rules = Any (IsOf true) rules × (¬ Any (IsOf false) rules)
 
-  -- what the first rule that denies and the first that allows tell of the rules
+  -- what the first rule that denies and the first that allows say of the rules
   abbrev pub Decide : List R → Option R → Option R → Type 0
   Decide rules (Some denying) allowing = (¬ Allow rules) × IsFirst false rules denying
   Decide rules None (Some allowing) = Allow rules × IsFirst true rules allowing
@@ -150,6 +150,6 @@ module _ {R : Type 0} (allows fits : R → Bool) (Fits : R → Type 0)
     none_match false rules (found_none (is_of false) rules denies),
   )
 
-  -- what the rules that are found tell
+  -- what the rules that are found say
   pub decided : (rules : List R) → Decide rules (find (is_of false) rules) (find (is_of true) rules)
   decided rules = decide_by rules (find (is_of false) rules) (find (is_of true) rules) refl refl

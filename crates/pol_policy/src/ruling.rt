@@ -1,4 +1,4 @@
-//! The first rules that match, and what they come to.
+//! The first rules that match, and the verdict that they give.
 ghost use Rattle.std.specs.Prelude.{◌≡◌, ◌&&◌, Bool, map, find, slice_get};
 ghost use Rattle.std.specs.Option.{option_and_then, option_map};
 ghost use Rattle.pol_policy.specs.Deciding.{verdict_by};

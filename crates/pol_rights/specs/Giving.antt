@@ -27,7 +27,7 @@ pub record MatchesLine (groups : List PlainGroup) (by : Option (List ℕ)) (kind
 abbrev pub MatchesAs : Bool → List PlainGroup → Option (List ℕ) → EventKind → PlainLineRule → Type 0
 MatchesAs allow groups by kind rule = (rule.allow ≡ allow) × MatchesLine groups by kind rule
 
--- some of the rules allows, or denies, and matches
+-- one of the rules allows, or denies, as is asked, and matches
 abbrev pub SomeMatches : Bool → List PlainGroup → List PlainLineRule → Option (List ℕ) → EventKind → Type 0
 SomeMatches allow groups rules by kind = Any (MatchesAs allow groups by kind) rules
 

@@ -10,7 +10,7 @@ use Rattle.pol_rights.specs.Giving.{SaysToLine}
 use Rattle.pol_rights.specs.Rules.{PlainPlantPolicy}
 use Rattle.pol_rights.specs.Verdicts.{verdict_on_line}
 
--- the verdict is the one that the definitions of belonging and of giving give
+-- The verdict on each line is the one that the definitions of belonging and of giving give.
 abbrev pub LinesAreJudged : Type 0
 LinesAreJudged = (policy : PlainPlantPolicy) (by : Option (List ℕ)) (kind : EventKind) →
     SaysToLine policy by kind (verdict_on_line policy by kind)
@@ -19,7 +19,7 @@ LinesAreJudged = (policy : PlainPlantPolicy) (by : Option (List ℕ)) (kind : Ev
 abbrev pub without_lines : ReadResult PlainPolicy → ReadResult PlainPlantPolicy
 without_lines read = read >>= λ policy. Ok (record { commands = policy; lines = None })
 
--- what has no key `lines` is read as a policy of the job guard: the policy, or the fault
+-- A line without the key `lines` is read as a policy of the job guard: as the same policy, or with the same fault.
 abbrev pub PoliciesAreAlike : Type 0
 PoliciesAreAlike = (line : List ℕ) → value_at (codes "lines") line ≡ None →
     plant_policy_on line ≡ without_lines (policy_on line)

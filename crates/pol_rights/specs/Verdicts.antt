@@ -1,4 +1,4 @@
--- The verdict on a line as a function: what the definitions of `Giving` come to.
+-- The verdict on a line as a function, which decides what `Giving` defines.
 use Rattle.std.specs.Prelude.{ℕ, Bool, ◌&&◌, List, Option, Some, None, is_none}
 use Rattle.std.specs.Option.{option_map}
 use denote.Enum.Bare.{sameb}
@@ -11,7 +11,7 @@ use Rattle.pol_policy.specs.declared.verdict.Verdict.{Verdict}
 use Rattle.pol_rights.specs.Giving.{rules_on}
 use Rattle.pol_rights.specs.Rules.{PlainLineRule, PlainPlantPolicy}
 
--- the two are one kind
+-- the two kinds of lines are one
 abbrev pub same_kind : EventKind → EventKind → Bool
 same_kind = sameb the_type
 

@@ -12,7 +12,7 @@ use mtp_json::{FaultKind, FromJson, JsonRefusal, Words, here};
 use serde_json::Value;
 use std::alloc::Global;
 
-/// Whether it is the kind of a command of the desk.
+/// Whether a kind of line is that of a command of the desk.
 pub fn is_desk(kind: EventKind) -> bool
     ensures { result ≡ is_desk_kind kind }
 {

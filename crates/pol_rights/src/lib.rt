@@ -4,7 +4,7 @@
 //! policy of the job guard, and perhaps rules of lines. A line may be given where a rule of lines that allows matches
 //! whoever gives it and its kind, and none that denies; `judge_line` names the first such rule (`specs/Giving.antt`).
 //! A policy without the key `lines` judges commands alone, and says what it says to the job guard
-//! (`policies_are_alike`). It knows nothing of plants or of what stands in a line but its kind.
+//! (`policies_are_alike`). The crate knows nothing of plants or of what a line says beside its kind.
 //!
 //! Tried in `rights_examples`.
 #![tactic(auto)]

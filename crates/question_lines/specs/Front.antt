@@ -14,6 +14,6 @@ opens_with_ask [] = false
 opens_with_ask (byte ∷ bytes) =
     byte == ascii.open_brace && starts_with nat_eq (behind_blanks bytes) (codes "\"ask\"")
 
--- a line is a question where it begins so, behind blanks
+-- a line is a question where, behind blanks, it opens with the key `ask`
 unfoldable pub is_question : List ℕ → Bool
 is_question line = opens_with_ask (behind_blanks line)

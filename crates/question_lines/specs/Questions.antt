@@ -20,15 +20,15 @@ use Rattle.question_lines.specs.declared.question.Question.{Question}
 use Rattle.question_lines.specs.declared.question.Question.TheVariants.{Would, Plant, Bindings, Entries}
 use Rattle.question_lines.specs.Words.{ask_words}
 
--- what a line asks: what an event would be answered, with who gives it, or its fault; what stands in the plant, and what
--- a person may command there; how recipes could be bound; the entries from a place on, and how many at most
+-- what a line asks: what an event would be answered, with who gives it, or its fault; what is in the plant, and what a
+-- person may command there; how recipes could be bound; the entries from a place on, and how many at most
 pub data PlainQuestion : Type 0 where
   would : (said : Result PlainNamed LineFault) → PlainQuestion
   plant : (person : Option (List ℕ)) → PlainQuestion
   bindings : PlainQuestion
   entries : (from : ℕ) (most : Option ℕ) → PlainQuestion
 
--- an event that is asked about is as a line says it: a recipe's chart is valid, a start's binds stand in order
+-- an event that is asked about is as a line says it: a recipe's chart is valid, a start's binds are in order
 abbrev pub asks_orderly : PlainQuestion → Bool
 asks_orderly (would (Ok named)) = is_orderly named.event
 asks_orderly _ = true
@@ -54,7 +54,7 @@ would_in value =
     nothing_but (codes "ask event") value >>= λ _.
     Ok (would (of_named (named_in event)))
 
--- what stands in the plant, and what a person may command there, or anybody
+-- what is in the plant, and what a person may command there, or anybody
 unfoldable pub plant_in : Data → ReadResult PlainQuestion
 plant_in value =
     optional (codes "by") name value >>= λ person.

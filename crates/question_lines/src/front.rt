@@ -1,4 +1,4 @@
-//! Which lines ask.
+//! Which lines are questions.
 ghost use Rattle.std.specs.Prelude.{◌≡◌, ◌≤◌, length, not};
 ghost use Rattle.std.specs.List.{position, position_or_len};
 ghost use Rattle.json.specs.Word.{is_space};
@@ -25,7 +25,7 @@ fn blanks(bytes: &[u8]) -> usize
     first_other(bytes).unwrap_or(bytes.len())
 }
 
-// What stands behind the blanks that the bytes begin with.
+// What comes behind the blanks that the bytes begin with.
 fn behind_blanks(bytes: &[u8]) -> &[u8]
     ensures { result.now ≡ behind_blanks bytes.now }
 {

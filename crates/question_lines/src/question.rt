@@ -8,7 +8,7 @@ use named_lines::Named;
 pub enum Question {
     /// What an event would be answered, with who gives it; or the fault of the event, with the path in it.
     Would(Result<Named, LineFault>),
-    /// What stands in the plant, and what a person may command there, or anybody where none is named.
+    /// What is in the plant, and what a person may command there, or anybody where none is named.
     Plant(Option<Name>),
     /// How each recipe could be bound.
     Bindings,

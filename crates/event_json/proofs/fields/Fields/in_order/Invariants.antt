@@ -1,4 +1,4 @@
--- The fields so far stand in order.
+-- The fields so far are in order.
 use Rattle.std.proofs.Common.{◌≡◌, length, map, take}
 use Rattle.event_json.specs.Fields.{plain_field, fields_of, in_order}
 use Rattle.event_json.proofs.fields.Fields.in_order.Given as goal
