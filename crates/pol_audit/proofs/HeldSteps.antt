@@ -22,7 +22,7 @@ use Rattle.pol_audit.specs.Starts.{is_active_step}
 abbrev pub first_owed : Sights → List LogEntry → List PlainStep → CursorNext
 first_owed seen log steps = first_unhold seen (owed seen log (filter (is_active_step log) steps))
 
--- it is what the first step comes to, and then what the others do
+-- it is what comes next for the first step, and then for the others
 first_then : (seen : Sights) (log : List LogEntry) (step : PlainStep) (others : List PlainStep)
     → first_next (owed_next seen log step) (first_owed seen log others) ≡ first_owed seen log (step ∷ others)
 first_then seen log step others =

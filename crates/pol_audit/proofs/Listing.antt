@@ -19,7 +19,7 @@ use Rattle.mtp_codes.proofs.Names.{same_true}
 use Rattle.pol_history.proofs.Names.{written}
 use Rattle.pol_audit.specs.Listed.{is_this, items_under, listed}
 
--- an item that is kept stands at the end of its name's list
+-- an item that is kept is at the end of its name's list
 pub added : {T : Type 0} (name other : List ℕ) (old : List T) (item : T) →
     cond (bytes_eq name other) (old ++ item ∷ []) old
     ≡ old ++ cond (is_this other (Some name) && true) (item ∷ []) []
@@ -29,7 +29,7 @@ added name other old item = go (bytes_eq name other)
     go true = refl
     go false = sym (append-nil old)
 
--- an item that isn't kept stands nowhere
+-- an item that isn't kept is in no list
 pub left : {T : Type 0} (name : Option (List ℕ)) (other : List ℕ) (old : List T) (item : T) →
     old ≡ old ++ cond (is_this other name && false) (item ∷ []) []
 left name other old item = go (is_this other name)
@@ -57,7 +57,7 @@ items_written named name other item old new found is =
     go true same = its ∙ ap (λ name. items_under named name ++ item ∷ []) (same_true name other same)
     go false same = refl
 
--- an item that is told stands at the end of its name's list
+-- an item that is given is at the end of its name's list
 pub kept_one : {T : Type 0} (name : List ℕ) (said whom : Option (List ℕ)) (told : Option T) (item : T) (old : List T) →
     said ≡ whom → told ≡ Some item →
     old ++ cond (is_this name said && true) (item ∷ []) []
@@ -68,7 +68,7 @@ kept_one name said whom told item old same is = rw (same, is) (go (is_this name 
     go true = refl
     go false = refl
 
--- where none is told all lists stay
+-- where none is given all lists stay
 pub kept_none : {T : Type 0} (name : List ℕ) (whom : Option (List ℕ)) (told : Option T) (old : List T) →
     told ≡ None → old ≡ old ++ cond (is_this name whom) (cons_option told []) []
 kept_none name whom told old is = rw is (go (is_this name whom))
@@ -83,7 +83,7 @@ as_listed entries =
     length-reverse (map (λ entry. plain_entry entry.now) entries)
     ∙ length-map entries (λ entry. plain_entry entry.now)
 
--- an item that is told stands there where it passes a test
+-- an item that is given stands there where it passes a test
 pub kept_some : {T : Type 0} (kind : T → Bool) (name : List ℕ) (said whom : Option (List ℕ)) (told : Option T)
     (item : T) (old : List T) →
     said ≡ whom → told ≡ Some item →
@@ -96,7 +96,7 @@ kept_some kind name said whom told item old same is = rw (same, is) (go (is_this
     go true false = refl
     go false kept = refl
 
--- and where none is told all lists stay
+-- and where none is given all lists stay
 pub kept_nothing : {T : Type 0} (kind : T → Bool) (name : List ℕ) (whom : Option (List ℕ)) (told : Option T)
     (old : List T) → told ≡ None → old ≡ old ++ cond (is_this name whom) (filter kind (cons_option told [])) []
 kept_nothing kind name whom told old is = rw is (go (is_this name whom))

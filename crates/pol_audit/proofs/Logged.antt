@@ -7,7 +7,7 @@ use Rattle.pol_events.specs.Events.{PlainEntry}
 use Rattle.pol_history.specs.Looking.{History}
 use Rattle.pol_history.specs.Batches.{taken, log_by}
 
--- an entry that was taken stands at the end
+-- an entry that was taken is at the end
 pub log_grows : (entry : PlainEntry) (past : History) (new : LogEntry) → taken entry.answer ≡ Some new
     → log_by (entry ∷ past) ≡ log_by past ++ new ∷ []
 log_grows entry past new is = rw is (reverse-append (new ∷ []) (filter_map (λ entry. taken entry.answer) past))

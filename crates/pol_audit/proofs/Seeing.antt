@@ -19,7 +19,7 @@ sight_where Absent view = sight.Unreported
 sight_where Docked view = sight_of_view view
 sight_where (Away ticket) view = sight.Away
 
--- what is seen of a service is told by its view and by the docking without its count
+-- what is seen of a service is decided by its view and by the docking without its count
 pub sight_is : (docking : modules.Docking) (view : Option ServiceView)
     → sight_in docking view ≡ sight_where (docking_seen docking) view
 sight_is modules.absent view = refl
@@ -32,7 +32,7 @@ reading_where Absent value = reading_sight.Unreported
 reading_where Docked value = reading_of_value value
 reading_where (Away ticket) value = reading_sight.Away
 
--- what is seen of a variable is told by its value and by the docking without its count
+-- what is seen of a variable is decided by its value and by the docking without its count
 pub reading_is : (docking : modules.Docking) (value : Option Value)
     → reading_in docking value ≡ reading_where (docking_seen docking) value
 reading_is modules.absent value = refl

@@ -1,4 +1,4 @@
--- What each module told last, where one more entry comes.
+-- What each module reported last, where one more entry comes.
 use Rattle.std.proofs.Common.{◌≡◌, ℕ, Bool, true, false, cond, List, [], ◌∷◌, Option, Some, None, refl, ap, ◌∙◌}
 use Rattle.std.specs.Prelude.{◌&&◌}
 use Rattle.std.specs.HashMap.{HashMap}
@@ -26,7 +26,7 @@ said_more says entry past = go (is_moving entry.event)
     go true = refl
     go false = refl
 
--- so what was told last is so after one more entry
+-- what was reported last is right after one more entry
 told_more : {T S : Type 0} (says : List ℕ → PlainEvent → Option T) (history : History) (entry : PlainEntry)
     (more : Option (List ℕ × T)) (old new : List (List ℕ × HashMap (List ℕ) T S)) →
     ((name : List ℕ) → told_of more name ≡ says name entry.event) →
@@ -55,7 +55,7 @@ told_more {T} says history entry more old new same tells before tag name =
     go true = said_more (λ entry. says name entry.event) entry (past tag history)
     go false = refl
 
--- what an event tells of a service is what it reports of it
+-- the control that an event has of a service is the one that it reports of it
 control_same : (event : PlainEvent) (service : List ℕ) → told_of (told_control event) service ≡ reported service event
 control_same (report at tag other control) service = refl
 control_same _ service = refl
@@ -83,7 +83,7 @@ pub values_more : {S : Type 0} (history : History) (entry : PlainEntry)
 values_more history entry old new =
     told_more reported_value history entry (told_value entry.event) old new (value_same entry.event)
 
--- one name is told of, of a module that wasn't moved
+-- something is reported of one name, of a module that wasn't moved
 pub one_told : {T : Type 0} (tag name other each : List ℕ) (item : T) (before : Option T) →
     cond (bytes_eq tag other && bytes_eq name each) (Some item) before
     ≡ cond (is_this other (Some tag)) (told_after false (told_of (Some (name, item)) each) before) before

@@ -5,7 +5,7 @@ use Rattle.pol_events.specs.Events.{plain_entry}
 use Rattle.pol_audit.specs.Reading.{Read}
 use Rattle.pol_audit.specs.declared.audit.Audit.{Audit}
 
--- what it has kept of the lines that it read
+-- what an audit has kept of the lines that it read
 abbrev pub plain_audit : Audit → Read
 plain_audit audit =
     record {

@@ -16,7 +16,8 @@ GoesAlong recipes recipe run cursor =
     (chart_named recipe recipes ≡ Some (plain_chart cursor.chart))
     × AreAfter (plain_chart cursor.chart) cursor.marks run
 
--- each batch that is followed has such a cursor, by the accepted recipes and the run of each batch
+-- the cursor of each batch that is followed is one of its recipe's chart and went along its run, by the accepted
+-- recipes and the run of each batch
 abbrev pub AreFollowed : List (List ℕ × Followed) → History → (List ℕ → List LogEntry) → Type 0
 AreFollowed named recipes runs =
     (batch : List ℕ) → IfSome (lookup (bytes_eq batch) named)

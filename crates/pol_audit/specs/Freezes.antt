@@ -5,7 +5,7 @@ use Rattle.mtp_codes.specs.Faults.{when}
 use Rattle.pol_events.specs.Events.{PlainEntry}
 use Rattle.pol_history.specs.Batches.{held_step, is_freeze}
 
--- the step is the one of this name
+-- true where the step is the one of this name; else nothing
 abbrev pub asked_step : List ℕ → Option (List ℕ) → Option Bool
 asked_step name None = None
 asked_step name (Some step) = when (same_name step name) true

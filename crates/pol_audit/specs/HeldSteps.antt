@@ -1,4 +1,4 @@
--- What a batch sees of its modules after a history, and what it comes to with a step that is to be held or unheld.
+-- What a batch sees of its modules after a history, and what it does next for a step that is to be held or unheld.
 use Rattle.std.specs.Prelude.{◌&&◌, List, Option, if◌then◌else◌}
 use Rattle.chart_core.specs.Trees.{PlainStep}
 use Rattle.chart_core.specs.declared.entry.LogEntry.{LogEntry}
@@ -24,7 +24,7 @@ plain_sights seen = sights_by (given (plain_allocation seen.binds)) (λ tag. pas
 abbrev pub hold_seen : cursor.Sights → PlainStep → Option LogEntry
 hold_seen seen step = hold_step step (tag_of seen step.role) (seen.view step.role step.service)
 
--- what a step comes to that was held, by what is seen of its service: nothing where that is over
+-- what comes next for a step that was held, by what is seen of its service: nothing where the service isn't under way
 abbrev pub unhold_seen : cursor.Sights → PlainStep → CursorNext
 unhold_seen seen step =
     if is_under_way (seen.view step.role step.service)
@@ -32,7 +32,7 @@ unhold_seen seen step =
     (unhold_row step (tag_of seen step.role))
     else Whole
 
--- what a step comes to after the log: nothing unless it is active and was held
+-- what comes next for a step after the log: nothing unless it is active and was held
 abbrev pub owed_next : cursor.Sights → List LogEntry → PlainStep → CursorNext
 owed_next seen log step =
     if is_active_step log step && was_held log step.name then unhold_seen seen step else Whole

@@ -21,7 +21,7 @@ wrong_after history (entry ∷ later) =
 abbrev pub judged : List PlainEntry → Judged
 judged entries = wrong_after [] entries
 
--- a wrong answer stands at this place, another one is right there, and each answer before is right
+-- the answer at this place is wrong, another one is right there, and each answer before is right
 pub record IsFirstWrong (entries : List PlainEntry) (place : ℕ) (says : Answer) : Type 0 where
   pub before : List PlainEntry
   pub entry : PlainEntry

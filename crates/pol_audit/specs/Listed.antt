@@ -29,7 +29,7 @@ listed entries = reverse (map (λ entry. plain_entry entry.now) entries)
 abbrev pub all_orderly : History → Bool
 all_orderly entries = list_all (λ entry. is_orderly entry.event) entries
 
--- an item stands at the end of the list of the name, if there is one and the item is kept; the other lists stay
+-- an item was put at the end of the list of the name, if there is one and the item is kept; the other lists stay
 abbrev pub Grows : {T Z : Type 0} → List (List ℕ × Vec T Z) → List (List ℕ × Vec T Z) → Option (List ℕ) → Bool → T →
     Type 0
 Grows old new whom kept item =

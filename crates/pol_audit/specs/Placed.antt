@@ -33,7 +33,7 @@ freezes entry = is_some (freezing entry.event)
 abbrev pub asks : PlainEntry → Bool
 asks entry = is_freeze entry.event || is_some (held_step entry.answer)
 
--- the lists are those of the history, what was told last is so there, and the cursors went along its batches
+-- the lists are those of the history, with what was reported last in it, and the cursors went along its batches
 pub record IsPlaced (places : Places) (history : History) : Type 0 where
   pub moves : (tag : List ℕ) → listed (items_under places.modules.moves.named.entries tag)
       ≡ filter moves (past tag history)

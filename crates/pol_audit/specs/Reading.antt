@@ -9,7 +9,7 @@ use Rattle.pol_record.specs.declared.verdicts.Verdict.{Verdict}
 use Rattle.pol_audit.specs.Verdict.{Line, entry_on, verdict_on}
 use Rattle.pol_audit.specs.declared.judging.TheConstants.{MOST_JUDGED}
 
--- the entries up to the first line that is none, the oldest first, and the lines from that one on
+-- the entries up to the first line that isn't an entry, the oldest first, and the lines from that one on
 pub record Read : Type 0 where
   pub entries : List PlainEntry
   pub behind : List Line
@@ -18,16 +18,16 @@ pub record Read : Type 0 where
 abbrev pub nothing_read : Read
 nothing_read = record { entries = []; behind = [] }
 
--- one more line behind the entries
+-- what is kept with one more line behind the entries
 abbrev pub with_behind : Read → Line → Read
 with_behind read line = record { entries = read.entries; behind = read.behind ++ line ∷ [] }
 
--- one more line of those in front, which says this entry, if it says one
+-- what is kept with one more line, before which all lines are entries; it says this entry, if it says one
 abbrev pub with_front : Read → Option PlainEntry → Line → Read
 with_front read None line = with_behind read line
 with_front read (Some entry) line = record { entries = read.entries ++ entry ∷ []; behind = read.behind }
 
--- one more line
+-- what is kept with one more line
 abbrev pub with_line : Read → Line → Read
 with_line read line =
     if length read.behind == 0 then with_front read (entry_on line) line else with_behind read line
@@ -37,11 +37,11 @@ with_line read line =
 abbrev pub is_decided : Read → Bool
 is_decided read = nat_lt MOST_JUDGED (length read.entries) || nat_lt (suc (length read.entries)) (length read.behind)
 
--- one more line, unless the verdict is decided
+-- what is kept with one more line, which is left out where the verdict is decided
 abbrev pub after_line : Read → Line → Read
 after_line read line = if is_decided read then read else with_line read line
 
--- these lines were read
+-- what is kept where these lines were read
 abbrev pub read_all : List Line → Read
 read_all lines = fold after_line nothing_read lines
 

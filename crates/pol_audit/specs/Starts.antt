@@ -12,7 +12,7 @@ use Rattle.pol_events.specs.declared.event.Entry.{Entry}
 use Rattle.pol_history.specs.Batches.{if_open, watches}
 use Rattle.pol_history.specs.Looking.{History}
 
--- those of the batches that these entries start which watch the module and aren't closed, in the order of the entries
+-- the batches started by these entries that watch the module and aren't closed, in the order of the entries
 abbrev pub watchers_in : History → List ℕ → List (Bor Entry) → List (List ℕ)
 watchers_in history tag entries = filter_map (λ entry. if_open history (watches tag (plain_entry entry.now))) entries
 
@@ -20,6 +20,6 @@ watchers_in history tag entries = filter_map (λ entry. if_open history (watches
 unfoldable pub is_active_step : List LogEntry → PlainStep → Bool
 is_active_step log step = is_running (phase_after log step.name)
 
--- the plans of those of these steps that are active after the log
+-- the plans of the steps that are active after the log
 abbrev pub active_seen : List LogEntry → List (Bor Step) → List PlainStep
 active_seen log steps = filter (is_active_step log) (plans_seen steps)

@@ -10,8 +10,8 @@ use Rattle.pol_audit.specs.declared.judging.TheConstants.{MOST_JUDGED}
 abbrev pub spelled : List Line → History
 spelled lines = reverse (entries_of lines)
 
--- so many lines are entries, each answer among them is the one that the entries before it give, each event is as a line
--- says it, and behind them stand just the closing lines
+-- the first lines, `count` of them, are entries; each answer is the one that the entries before it give, each event is
+-- as a line says it, and just the closing lines follow
 pub record IsTrueHistory (lines : List Line) (count : ℕ) : Type 0 where
   pub legal : IsLegal (spelled lines)
   pub orderly : IsOrderly (spelled lines)
@@ -19,6 +19,6 @@ pub record IsTrueHistory (lines : List Line) (count : ℕ) : Type 0 where
   pub few : count ≤ MOST_JUDGED
   pub closed : first_other count (closing_lines (spelled lines)) (lines_behind lines) ≡ None
 
--- a good verdict is given of such lines alone
+-- A good verdict is given only of lines that are a true history with just its closing lines behind it.
 abbrev pub GoodIsTrue : Type 0
 GoodIsTrue = (lines : List Line) (count : ℕ) → verdict_of lines ≡ verdict.Good count → IsTrueHistory lines count

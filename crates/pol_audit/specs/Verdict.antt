@@ -34,7 +34,7 @@ abbrev pub entries_of : List Line → List PlainEntry
 entries_of [] = []
 entries_of (line ∷ lines) = run_from (entry_on line) (entries_of lines)
 
--- the lines behind it
+-- the lines behind the longest run of entries
 abbrev pub lines_behind : List Line → List Line
 lines_behind lines = drop (length (entries_of lines)) lines
 
@@ -43,7 +43,7 @@ lines_behind lines = drop (length (entries_of lines)) lines
 abbrev pub closing_lines : History → List (List ℕ)
 closing_lines history = map (batch_text history) (batches history) ++ end_text ∷ []
 
--- the line is this one, byte for byte; one that is too long is none
+-- the line is the wanted one, byte for byte; a line that is too long never is
 abbrev pub is_line : List ℕ → Line → Bool
 is_line wanted None = false
 is_line wanted (Some bytes) = bytes_eq wanted (bytes ++ 10 ∷ [])
@@ -67,7 +67,7 @@ abbrev pub by_lines : List PlainEntry → List Line → Verdict
 by_lines entries lines =
     by_tail (length entries) (first_other (length entries) (closing_lines (reverse entries)) lines)
 
--- the verdict over entries, of which the first 20,000 were found so, and the lines behind them
+-- the verdict over entries, by what was found of the first 20,000 of them, and over the lines behind them
 abbrev pub by_answers : List PlainEntry → List Line → Judged → Verdict
 by_answers entries lines (Wrong place says) = verdict.WrongAnswer place says
 by_answers entries lines Good =

@@ -92,7 +92,7 @@ fn recipe_rule(history: &Past<'_, '_>, name: Name) -> Option<Rule>
     first_of(&[recipe_known(history, name), recipes_full(history)])
 }
 
-// The roles that binds are held against.
+// The roles that binds are checked against.
 fn roles_of(chart: &Chart) -> &[Role]
     ensures { names_in result.now ≡ role_names (plain_chart chart.now) }
 {
@@ -349,7 +349,7 @@ pub fn answered_by<'a>(
 ///
 /// # Errors
 ///
-/// AllocError where memory is wanting: for the index of the history, for the steps or the marks of a batch's chart, or
+/// AllocError where there is no memory: for the index of the history, for the steps or the marks of a batch's chart, or
 /// for the roles of a start.
 pub fn says(alloc: Global, history: &[Entry], event: &Event) -> Result<Answer, AllocError>
     requires { IsOrderly (plain_history history.now) }

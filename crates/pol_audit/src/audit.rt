@@ -1,4 +1,4 @@
-//! An audit: it reads the lines of an input one after another, and then has its verdict.
+//! An audit: it reads the lines of an input one after another, and then gives its verdict.
 ghost use Rattle.std.specs.Prelude.{◌≡◌, ◌≤◌, IfOk, IsTrue, OnErr, OnOk, Some, None, length, take};
 ghost use Rattle.pol_events.specs.Events.{plain_entry, plain_event};
 ghost use Rattle.pol_events.specs.Orderly.{is_orderly};
@@ -109,7 +109,7 @@ impl Audit {
     ///
     /// # Errors
     ///
-    /// AllocError where memory is wanting; then what was read stays as it was.
+    /// AllocError where there is no memory; then what was read stays as it was.
     pub fn read_line(&mut self, line: &[u8]) -> Result<(), AllocError>
         ensures read { OnOk result (plain_audit self.new ≡ after_line (plain_audit self.old) (Some line.now)) }
         ensures unchanged { OnErr result (plain_audit self.new ≡ plain_audit self.old) }
@@ -124,7 +124,7 @@ impl Audit {
     ///
     /// # Errors
     ///
-    /// AllocError where memory is wanting; then what was read stays as it was.
+    /// AllocError where there is no memory; then what was read stays as it was.
     pub fn read_too_long(&mut self) -> Result<(), AllocError>
         ensures read { OnOk result (plain_audit self.new ≡ after_line (plain_audit self.old) None) }
         ensures unchanged { OnErr result (plain_audit self.new ≡ plain_audit self.old) }
@@ -177,7 +177,7 @@ impl Audit {
     ///
     /// # Errors
     ///
-    /// AllocError where memory is wanting.
+    /// AllocError where there is no memory.
     pub fn verdict(&self) -> Result<Verdict, AllocError>
         ensures value { IfOk result (λ verdict. verdict ≡ verdict_after (plain_audit self.now)) }
         ensures exact { (lines : List Line) → plain_audit self.now ≡ read_all lines

@@ -1,4 +1,4 @@
-//! The rules that recipes, a batch's past and the holders of modules decide.
+//! The rules that are decided by recipes, by a batch's past and by the holders of modules.
 ghost use Rattle.std.specs.Prelude.{◌≡◌, IfOk, Some, map, option_and_then};
 ghost use Rattle.std.specs.Option.{option_map};
 ghost use Rattle.mtp_codes.specs.Faults.{first_of};

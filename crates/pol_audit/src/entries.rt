@@ -1,4 +1,4 @@
-//! What entries of a history are.
+//! Whether an entry of a history is an accepted recipe.
 ghost use Rattle.std.specs.Prelude.{◌≡◌};
 ghost use Rattle.pol_events.specs.Events.{plain_entry};
 ghost use Rattle.pol_history.specs.Looking.{is_accepted_recipe};

@@ -63,7 +63,7 @@ pub fn chart_steps(alloc: Global, chart: &Chart) -> Result<Vec<&Step>, AllocErro
     steps_in_order(alloc, chart)
 }
 
-// An active step of a batch that is stopped, by what is seen of its service.
+// What a batch that is being stopped does next with an active step, by what is seen of the step's service.
 #[tactic(auto, using(crate::proofs::Steps::role_or_itself))]
 fn stop_seen(seen: &Sights, step: &Step) -> Next
     ensures { (broken : Bool) (others : List PlainStep)
@@ -80,7 +80,7 @@ fn stop_seen(seen: &Sights, step: &Step) -> Next
     )
 }
 
-// A batch that is stopped: its first active step, and when there is none it is closed.
+// What a batch that is being stopped does next, by its first active step; where there is none, the batch is closed.
 fn stop_next(seen: &Sights, broken: bool, steps: &[&Step], log: &Log<'_>) -> Next
     ensures { result ≡ stop_next
         (plain_sights seen.now)
@@ -123,7 +123,7 @@ fn cursor_steps(alloc: Global, cursor: &Cursor) -> Result<Vec<&Step>, AllocError
     chart_steps(alloc, cursor.chart())
 }
 
-// What comes next of the steps that are owed an Unhold; where none is, in the run of the chart.
+// What comes next for the steps that are owed an Unhold; where none is, what comes next in the run of the chart.
 fn unhold_or_run(cursor: &Cursor, steps: &[&Step], log: &Log<'_>, seen: &Sights) -> CursorNext
     requires { AreAfter (plain_chart cursor.now.chart) cursor.now.marks (chart_entries log.now.whole.now) }
     ensures { result ≡ unless_whole
@@ -137,7 +137,7 @@ fn unhold_or_run(cursor: &Cursor, steps: &[&Step], log: &Log<'_>, seen: &Sights)
     }
 }
 
-// What a batch with these steps does next that isn't frozen.
+// What a batch with these steps that isn't frozen does next.
 fn next_of_steps(cursor: &Cursor, steps: &[&Step], log: &Log<'_>, seen: &Sights) -> Next
     requires after { AreAfter (plain_chart cursor.now.chart) cursor.now.marks (chart_entries log.now.whole.now) }
     requires steps { active_seen log.now.whole.now steps.now
@@ -154,7 +154,7 @@ fn next_of_steps(cursor: &Cursor, steps: &[&Step], log: &Log<'_>, seen: &Sights)
     run_next(unhold_or_run(cursor, steps, log, seen))
 }
 
-// What a batch does next that isn't frozen.
+// What a batch that isn't frozen does next.
 fn unfrozen_next(
     alloc: Global,
     cursor: &Cursor,
@@ -169,7 +169,7 @@ fn unfrozen_next(
     Ok(next_of_steps(cursor, &steps, log, seen))
 }
 
-// What a frozen batch does next whose services are held.
+// What a frozen batch whose services are held does next.
 fn hold_next(
     alloc: Global,
     cursor: &Cursor,

@@ -89,7 +89,7 @@ fn asking(entry: &Entry, name: Name) -> Option<bool>
     }
 }
 
-// What the last of the batch's entries says that is a freeze or asks the step to hold.
+// What the last entry of the batch that is a freeze or asks the step to hold says of the step.
 fn last_asking(history: &Past<'_, '_>, batch: Name, name: Name) -> Option<bool>
     ensures { result ≡ last_of (asking name) (past_of_batch batch (plain_history history.now)) }
 {

@@ -1,4 +1,4 @@
-//! What a batch comes to with its active steps that are to be held or unheld.
+//! What a batch does next for its active steps that are to be held or unheld.
 ghost use Rattle.std.specs.Prelude.{◌≡◌};
 ghost use Rattle.chart_core.specs.Trees.{plain_step};
 ghost use Rattle.chart_cursor.specs.NextEntry.{first_hold, first_unhold, owed, unasked};
@@ -47,7 +47,7 @@ pub fn first_hold(seen: &Sights, batch: Name, steps: &[&Step], log: &Log<'_>) ->
 
 // ---- unheld
 
-// What a step comes to that was held, by what is seen of its service: nothing where that is over.
+// What comes next for a step that was held, by what is seen of its service: nothing where the service isn't under way.
 #[tactic(auto, using(crate::proofs::Steps::role_or_itself))]
 fn unhold_seen(seen: &Sights, step: &Step) -> CursorNext
     ensures { result ≡ unhold_seen (plain_sights seen.now) (plain_step step.now) }
@@ -56,7 +56,7 @@ fn unhold_seen(seen: &Sights, step: &Step) -> CursorNext
     unhold_step(step, tag, seen.view(step.role, step.service))
 }
 
-// What a step comes to after the log: nothing unless it is active and was held.
+// What comes next for a step after the log: nothing unless it is active and was held.
 fn owed_next(seen: &Sights, step: &Step, log: &Log<'_>) -> CursorNext
     ensures { result ≡ owed_next (plain_sights seen.now) log.now.whole.now (plain_step step.now) }
 {

@@ -80,14 +80,14 @@ fn first_wrong(alloc: Global, history: &[Entry]) -> Result<Judged, AllocError>
 }
 
 /// Judges a history, the oldest entry first: it is good exactly where each answer is the one that the entries before it
-/// give; else the first wrong answer is told by its place, with the right one.
+/// give; else the first wrong answer is given by its place, with the right one.
 ///
 /// The history has at most 20,000 entries; the charts of its events are valid, and the binds of each start are at most
 /// 64 and rise by role, as those of every line do.
 ///
 /// # Errors
 ///
-/// AllocError where memory is wanting.
+/// AllocError where there is no memory.
 #[tactic(auto, using(crate::proofs::Found::judges))]
 pub fn judge(alloc: Global, history: &[Entry]) -> Result<Judged, AllocError>
     requires few { length history.now ≤ MOST_JUDGED }

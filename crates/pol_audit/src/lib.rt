@@ -1,19 +1,19 @@
-//! The answer to an event, worked out by looking back in a history, and the verdict over the lines of one: plain,
-//! and a second way beside the plant's.
+//! Audits a history: works out the answer to an event by looking back in the history, plainly and in a second way
+//! beside the plant's, and gives the verdict over the lines of a history.
 //!
-//! The job audit stands on it, and the worked journals are answered by it a second time, beside the program
+//! The job audit is built on this crate, and the worked journals are answered by it a second time, beside the program
 //! (`pol_examples`).
 //!
-//! Its main contracts are those of `says`, which answers as `pol_history` defines; of `judge`, which tells the first
-//! answer of a history that is another one; and of `Audit`, which is fed the lines of a history and gives the verdict
-//! that `specs/Verdict.antt` defines. Each value is searched among the entries of the history that concern it, which an
-//! index lists (`specs/Placed.antt`); what each service and each variable told last stands there by its tag and name
-//! (`specs/Told.antt`), and a cursor goes along the run of each open batch (`specs/Followed.antt`). It knows nothing of
-//! plants and their tables, of sources and sinks, threads or clocks.
+//! The main contracts are those of `says`, which answers as `pol_history` defines; of `judge`, which finds the first
+//! wrong answer of a history; and of `Audit`, which is fed the lines of a history and gives the verdict that
+//! `specs/Verdict.antt` defines. Each value is searched among the entries of the history that concern it, which an
+//! index lists (`specs/Placed.antt`); the index also has what each service and each variable reported last, by its tag
+//! and name (`specs/Told.antt`), and a cursor that goes along the run of each open batch (`specs/Followed.antt`). This
+//! crate knows nothing of plants and their tables, of sources and sinks, threads or clocks.
 //!
 //! Each rule that can refuse an event is the function of its name: in `module_rules` where a module's past decides it,
 //! in `batch_rules` where recipes, batches or holders do, in `start_rules` where it asks about the binds of a start.
-//! The order of the rules of each kind of event stands in `answers`.
+//! The order of the rules of each kind of event is in `answers`.
 //!
 //! Tried in `plant_examples`.
 #![tactic(auto)]

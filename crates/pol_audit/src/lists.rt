@@ -1,4 +1,4 @@
-//! Under each name some items, in the order in which they were added.
+//! A list of items under each name, in the order in which they were added.
 ghost use Rattle.std.specs.Prelude.{◌≡◌, ◌∷◌, ◌++◌, [], ℕ, List, OnOk, if◌then◌else◌};
 ghost use Rattle.std.specs.Str.{bytes_eq};
 ghost use Rattle.pol_audit.specs.Listed.{Grows, items_under};
@@ -14,7 +14,7 @@ pub struct Lists<T> {
 }
 
 impl<T: Drop> Lists<T> {
-    /// Nothing stands under any name.
+    /// No items under any name.
     pub fn new(alloc: Global) -> Lists<T>
         ensures { (name : List ℕ) → items_under result.named.entries name ≡ [] }
     {
@@ -23,7 +23,7 @@ impl<T: Drop> Lists<T> {
         }
     }
 
-    /// What stands under the name.
+    /// The items under the name.
     pub fn of(&self, name: Name) -> &[T]
         ensures { result.now ≡ items_under self.now.named.entries name }
     {
@@ -33,7 +33,7 @@ impl<T: Drop> Lists<T> {
         }
     }
 
-    /// Has these items stand under the name.
+    /// Puts these items under the name.
     pub fn put(&mut self, name: Name, items: Vec<T>) -> Result<(), AllocError>
         ensures { OnOk result ((other : List ℕ) → items_under self.new.named.entries other
             ≡ (if bytes_eq name other then items.items else items_under self.old.named.entries other)) }

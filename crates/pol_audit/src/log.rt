@@ -14,7 +14,7 @@ use mtp_codes::Name;
 /// A batch's log, the oldest entry first.
 #[derive(Drop)]
 pub struct Log<'a> {
-    /// All of it.
+    /// The whole log.
     pub whole: &'a [LogEntry],
     /// The entries that belong to the run of the chart.
     pub run: &'a [LogEntry],

@@ -1,4 +1,4 @@
-//! The rules that a module's past decides: each tells whether it holds, and with which fields.
+//! The rules that are decided by a module's past: each says whether it holds, and with which fields.
 ghost use Rattle.std.specs.Prelude.{◌≡◌, map};
 ghost use Rattle.mtp_desc.specs.PlainService.{plain_service};
 ghost use Rattle.pol_events.specs.Events.{plain_history};
@@ -21,7 +21,7 @@ use mtp_machine::{edge, is_at_rest};
 use mtp_modes::{ServiceView, permitted};
 use pol_events::Rule;
 
-/// The tag is there already.
+/// The tag is docked or away already.
 #[tactic(auto, using(crate::proofs::Ruled::taken_is))]
 pub fn tag_taken(history: &Past<'_, '_>, tag: Name) -> Option<Rule>
     ensures { result ≡ tag_taken (docking_by (past tag (plain_history history.now))) }
@@ -33,7 +33,7 @@ pub fn tag_taken(history: &Past<'_, '_>, tag: Name) -> Option<Rule>
     }
 }
 
-/// The tag isn't there.
+/// The tag is neither docked nor away.
 #[tactic(auto, using(crate::proofs::Ruled::no_module_is))]
 pub fn no_module(history: &Past<'_, '_>, tag: Name) -> Option<Rule>
     ensures { result ≡ no_module tag (docking_by (past tag (plain_history history.now))) }

@@ -168,7 +168,7 @@ pub fn tags_without(alloc: Global, tag: Name, tags: &[Name]) -> Result<Vec<Name>
     Ok(others)
 }
 
-/// Makes of the tags that are there those with that of a plug, without that of an unplug.
+/// Changes the tags that are docked or away by one more entry: with the tag of a plug, without that of an unplug.
 pub fn tags_after(alloc: Global, tags: &mut Vec<Name>, entry: &Entry) -> Result<(), AllocError>
     ensures { OnOk result (tags.new.items
         ≡ present_after (plain_event entry.now.event) (is_accepted entry.now.answer) tags.old.items) }

@@ -1,4 +1,4 @@
-//! The entries of a history by what they concern: an index in which looking back is short.
+//! An index of the entries of a history by what they concern, in which looking back is short.
 ghost use Rattle.std.specs.Prelude.{◌≡◌, ◌∷◌, ◌++◌, ◌||◌, [], IfOk, OnOk, filter, is_some, true, if◌then◌else◌};
 ghost use Rattle.std.specs.List.{cons_option};
 ghost use Rattle.pol_events.specs.Events.{plain_entry, plain_event, plain_history};
@@ -103,7 +103,7 @@ fn is_halt(entry: &LogEntry) -> bool
 
 // ---- modules
 
-/// The accepted entries that move each module, and what each service and each variable of it told last since.
+/// The accepted entries that move each module, and what each service and each variable of it reported last since.
 #[derive(Drop)]
 pub struct ModulePlaces<'a> {
     pub moves: Lists<&'a Entry>,
@@ -247,8 +247,8 @@ impl<'a> KnownPlaces<'a> {
     }
 }
 
-/// An index of the entries of a history, and a cursor for each open batch. Who owns one has it in a box, so that the
-/// drop of its parts is proved once.
+/// An index of the entries of a history, and a cursor for each open batch. An owner keeps it in a box, so that the drop
+/// of its parts is proved once.
 #[derive(Drop)]
 pub struct Places<'a> {
     pub modules: ModulePlaces<'a>,

@@ -33,7 +33,7 @@ pub struct Recipes<'a> {
 }
 
 impl<'a> Recipes<'a> {
-    /// None yet.
+    /// No recipe yet.
     pub fn new(alloc: Global) -> Recipes<'a>
         ensures { result.entries.items ≡ [] }
     {
@@ -54,7 +54,7 @@ impl<'a> Recipes<'a> {
         Ok(())
     }
 
-    /// How many there are.
+    /// How many recipes there are.
     pub fn len(&self) -> usize
         ensures { result ≡ length self.now.entries.items }
     {

@@ -1,4 +1,4 @@
-//! What each module told last since it was docked.
+//! What each module reported last since it was docked.
 ghost use Rattle.std.specs.Prelude.{◌≡◌, ◌&&◌, ℕ, List, OnOk, Some, None, if◌then◌else◌};
 ghost use Rattle.std.specs.Str.{bytes_eq};
 ghost use Rattle.pol_audit.specs.Told.{Tells, told_under};
@@ -7,14 +7,14 @@ use indexmap::IndexMap;
 use mtp_codes::Name;
 use std::alloc::{AllocError, Global};
 
-/// What was told last, by the tag of a module and the name of its service or variable.
+/// What was reported last, by the tag of a module and the name of its service or variable.
 #[derive(Drop)]
 pub struct Told<T> {
     pub tagged: IndexMap<Name, IndexMap<Name, T>>,
 }
 
 impl<T: Copy + Drop> Told<T> {
-    /// Nothing was told of any module.
+    /// Nothing was reported of any module.
     pub fn new(alloc: Global) -> Told<T>
         ensures { (tag name : List ℕ) → told_under result.tagged.entries tag name ≡ None }
     {
@@ -23,14 +23,14 @@ impl<T: Copy + Drop> Told<T> {
         }
     }
 
-    /// What was told last under the tag and the name.
+    /// What was reported last under the tag and the name.
     pub fn last(&self, tag: Name, name: Name) -> Option<T>
         ensures { result ≡ told_under self.now.tagged.entries tag name }
     {
         self.tagged.get(&tag)?.get(&name).copied()
     }
 
-    // Forgets what was told under the tag.
+    // Forgets what was reported under the tag.
     fn forget(&mut self, alloc: Global, tag: Name) -> Result<(), AllocError>
         ensures { OnOk result ((other name : List ℕ) → told_under self.new.tagged.entries other name
             ≡ (if bytes_eq tag other then None else told_under self.old.tagged.entries other name)) }
@@ -39,7 +39,7 @@ impl<T: Copy + Drop> Told<T> {
         Ok(())
     }
 
-    // Keeps what is told under the tag and the name.
+    // Keeps what is reported under the tag and the name.
     fn put(&mut self, alloc: Global, tag: Name, name: Name, item: T) -> Result<(), AllocError>
         ensures { OnOk result ((other each : List ℕ) → told_under self.new.tagged.entries other each
             ≡ (if bytes_eq tag other && bytes_eq name each then Some item
@@ -55,8 +55,8 @@ impl<T: Copy + Drop> Told<T> {
         Ok(())
     }
 
-    /// Takes what is told under a tag, if there is one: all before is forgotten where its module was moved, else one
-    /// more name and what is told of it may come.
+    /// Takes what is reported under a tag, if there is one: all before is forgotten where its module was moved, else
+    /// one more name may come, with what is reported of it.
     #[tactic(auto, using(crate::proofs::Telling::one_told, crate::proofs::Telling::none_told))]
     pub fn tell(
         &mut self,

@@ -10,7 +10,7 @@ use chart_core::{Arm, Condition, Node};
 use mtp_codes::{Name, Reading};
 use std::alloc::{AllocError, Global};
 
-/// A test that stands in a condition of a chart: which variable of which role it reads, and what it compares with.
+/// A test in a condition of a chart: which variable of which role it reads, and what it compares with.
 #[derive(Clone, Copy)]
 pub struct Test {
     /// The role whose module reports the variable.
@@ -124,7 +124,7 @@ fn gather_arms(each: &[Arm], found: &mut Vec<Test>) -> Result<(), AllocError>
 ///
 /// # Errors
 ///
-/// AllocError where memory is wanting for an entry for each test.
+/// AllocError where there is no memory for an entry for each test.
 pub fn tests_in_order(alloc: Global, root: &Node) -> Result<Vec<Test>, AllocError>
     ensures { IfOk result (λ tests. plain_tests tests.items ≡ tests_in (plain_node root.now)) }
 {

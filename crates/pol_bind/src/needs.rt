@@ -34,7 +34,7 @@ pub struct Needs<'a> {
     pub tests: Vec<Test>,
 }
 
-// Those of the steps that are of the role.
+// The steps that are of the role.
 fn steps_of<'a>(alloc: Global, all: &[&'a Step], role: Name) -> Result<Vec<&'a Step>, AllocError>
     ensures { IfOk result (λ found. plans_seen found.items
         ≡ filter (λ step. same_name step.role role) (plans_seen all.now)) }
@@ -48,7 +48,7 @@ fn steps_of<'a>(alloc: Global, all: &[&'a Step], role: Name) -> Result<Vec<&'a S
     Ok(found)
 }
 
-// Those of the tests that are of the role.
+// The tests that are of the role.
 fn tests_of(alloc: Global, all: &[Test], role: Name) -> Result<Vec<Test>, AllocError>
     ensures { IfOk result (λ found. plain_tests found.items
         ≡ filter (λ test. same_name test.role role) (plain_tests all.now)) }
@@ -67,7 +67,7 @@ fn tests_of(alloc: Global, all: &[Test], role: Name) -> Result<Vec<Test>, AllocE
 ///
 /// # Errors
 ///
-/// AllocError where memory is wanting for an entry for each step and each test of the role.
+/// AllocError where there is no memory for an entry for each step and each test of the role.
 pub fn needs_of<'a>(
     alloc: Global,
     chart: &'a Chart,
@@ -88,7 +88,7 @@ pub fn needs_of<'a>(
     })
 }
 
-// Whether the module has the type and the version of the role; none has those of a role that isn't there.
+// Whether the module has the type and the version of the role; no module has those of a role that the chart lacks.
 fn is_of_type(role: Option<&Role>, description: &Description) -> bool
     ensures { result ≡ is_none (role_fault (plain_description description.now)
         (option_map (λ role. plain_role role.now) role.entry)) }
@@ -124,7 +124,7 @@ fn fits_all(tests: &[Test], description: &Description) -> bool
 }
 
 impl<'a> Needs<'a> {
-    /// Whether a module with this description meets all this. Looks at the steps and the tests of the role alone.
+    /// Whether a module with this description meets these needs. Looks at the steps and the tests of the role alone.
     pub fn are_met(&self, description: &Description) -> bool
         ensures { result ≡ are_met (plain_needs self.now) (plain_description description.now) }
     {

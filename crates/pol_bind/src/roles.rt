@@ -1,4 +1,4 @@
-//! What the binds of a start break by themselves, against the roles of the recipe.
+//! The rules that the binds of a start can break by themselves, against the roles of the recipe.
 ghost use Rattle.std.specs.Prelude.{◌≡◌, [], map};
 ghost use Rattle.mtp_codes.specs.Names.{is_among};
 ghost use Rattle.chart_core.specs.Trees.{plain_node, steps};
@@ -47,7 +47,7 @@ fn unknown_role(binds: &[Bind], roles: &[Role]) -> Option<Name>
     None
 }
 
-// The one of two names that stands first in byte order.
+// The one of two names that comes first in byte order.
 fn first_name(one: Option<Name>, other: Option<Name>) -> Option<Name>
     ensures { result ≡ first_name one other }
 {
@@ -64,7 +64,7 @@ fn first_name(one: Option<Name>, other: Option<Name>) -> Option<Name>
     }
 }
 
-/// The first role in byte order, held or watched, that the recipe lacks; each list stands in byte order.
+/// The first role in byte order, held or watched, that the recipe lacks; each list is in byte order.
 pub fn role_unknown(binds: Allocation<'_>, roles: &[Role]) -> Option<Rule>
     ensures { result ≡ role_unknown (plain_allocation binds.entry) (names_in roles.now) }
 {

@@ -71,7 +71,7 @@ docking_next event answer whole less same =
     ∙ same.docking
     ∙ ap (λ found. unwrap_or found absent) (sym (unmoved whole (paired event answer) refl))
 
--- where the same module stands by two pasts, the same stands with one more entry
+-- where the same module is there by two pasts, it is there by both with one more entry
 pub stands_after : (event : PlainEvent) (answer : Answer) (whole less : History) → StandsSame whole less →
     StandsSame (paired event answer ∷ whole) (paired event answer ∷ less)
 stands_after event answer whole less same = record {
@@ -96,7 +96,7 @@ stands_left event answer whole less still same = record {
   description = same.description;
 }
 
--- after a plug the same module stands by any two pasts
+-- after a plug the same module is there by any two pasts
 pub stands_plugged : (event : PlainEvent) (answer : Answer) (whole less : History) → is_plug event ≡ true →
     StandsSame (paired event answer ∷ whole) (paired event answer ∷ less)
 stands_plugged (plug at tag description) answer whole less is =

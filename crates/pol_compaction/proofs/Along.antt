@@ -82,7 +82,7 @@ apart_mark whole tag says event apart = rw apart refl
 
 -- ---- a module that isn't replaced later
 
--- the same module stands there by all entries and by those that stay, and what it told fits what comes
+-- the same module is there by all entries and by those that stay, and what it reported fits what comes
 pub record LooksAlong (whole : History) (tag : List ℕ) (was_read : Bool) (all kept : History)
     (newer : List PlainEntry) : Type 0 where
   pub stands : StandsSame all kept

@@ -113,7 +113,7 @@ stay_next whole history place entry named told flags flags_then stays default to
         fate
         ∙ entry_by whole (lasting_in whole older) newer (plain_entry entry)
 
--- the flagged entries of a history as it stands are those to which it is compacted
+-- the flagged entries of a history as it is are those to which it is compacted
 pub kept_flagged : (history : List Entry) (flags : List Bool) →
     flags ≡ stay_flags (plain_history history) [] (map plain_entry history) →
     flagged flags (map plain_entry history) ≡ compacted (plain_history history)

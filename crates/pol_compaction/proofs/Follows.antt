@@ -115,7 +115,7 @@ ends_open whole older (entry ∷ newer) legal orderly (next, follows) =
 
 -- ---- pasts
 
--- an accepted event of the module stands in its past
+-- an accepted event of the module is in its past
 pub own_past : (older : History) (entry : PlainEntry) (tag : List ℕ) → is_module tag (subject entry.event) ≡ true →
     is_accepted entry.answer ≡ true → past tag (entry ∷ older) ≡ entry ∷ past tag older
 own_past older entry tag own accepted =

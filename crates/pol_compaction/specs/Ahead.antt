@@ -1,5 +1,5 @@
 -- What lies ahead of a module, on the way back over a history: whether it is replaced, what reads or moves it next, and
--- what its services and variables tell before that.
+-- what its services and variables report before that.
 use Rattle.std.specs.Prelude.{ℕ, ◌≡◌, Bool, true, false, List, [], Option, Some, None, option_map}
 use Rattle.std.specs.Map.{lookup}
 use Rattle.std.specs.Option.{option_map_or}
@@ -23,14 +23,14 @@ use Rattle.pol_compaction.specs.declared.ahead.Turn.TheVariants.{Read, Moved}
 
 -- ---- one module
 
--- whether it is replaced, what it meets next, and what is told before that
+-- whether a module is replaced, what it meets next, and what is reported before that
 pub record PlainAhead : Type 0 where
   pub replaced : Bool
   pub turn : Option Turn
   pub controls : List (List ℕ × ServiceControl)
   pub values : List (List ℕ × Value)
 
--- what contracts see of it
+-- what contracts see of what lies ahead of a module
 abbrev pub plain_ahead : Ahead → PlainAhead
 plain_ahead ahead = record {
   replaced = ahead.replaced;
@@ -43,7 +43,7 @@ plain_ahead ahead = record {
 abbrev pub nothing_ahead : PlainAhead
 nothing_ahead = record { replaced = false; turn = None; controls = []; values = [] }
 
--- it is read or moved, before anything is told
+-- what lies ahead of a module that is read or moved before anything is reported
 abbrev pub turned : Turn → Bool → PlainAhead
 turned turn replaced = record { replaced = replaced; turn = Some turn; controls = []; values = [] }
 
@@ -52,7 +52,7 @@ abbrev pub turn_mark : {A : Type 0} → Turn → Mark A
 turn_mark Read = read
 turn_mark Moved = moved
 
--- the next mark of a service or a variable, by what it tells before its module is read or moved, and by that
+-- the next mark of a service or a variable, by what it reports before its module is read or moved, and by that
 abbrev pub mark_ahead : {A : Type 0} → Option A → Option Turn → Option (Mark A)
 mark_ahead (Some said) turn = Some (told said)
 mark_ahead None turn = option_map turn_mark turn
@@ -93,7 +93,7 @@ ahead_with (variable at tag name value) known = record {
 ahead_with (desk at tag service command) known = known
 ahead_with _ known = turned Read known.replaced
 
--- so much is known of a module of what these entries, the oldest first, do to it
+-- what is known of a module is what these entries, the oldest first, do to it
 pub record IsAhead (whole : History) (tag : List ℕ) (newer : List PlainEntry) (known : PlainAhead) : Type 0 where
   pub replaced : known.replaced ≡ is_replaced tag newer
   pub control : (service : List ℕ) → mark_ahead (lookup (bytes_eq service) known.controls) known.turn
@@ -107,6 +107,6 @@ pub record IsAhead (whole : History) (tag : List ℕ) (newer : List PlainEntry) 
 abbrev pub ahead_of : List (List ℕ × Ahead) → List ℕ → PlainAhead
 ahead_of modules tag = option_map_or plain_ahead (lookup (bytes_eq tag) modules) nothing_ahead
 
--- so much is known of each module of those of these entries that last
+-- what is known of each module is what the lasting ones of these entries do to it
 abbrev pub AreAhead : History → List PlainEntry → List (List ℕ × Ahead) → Type 0
 AreAhead whole newer modules = (tag : List ℕ) → IsAhead whole tag (lasting_in whole newer) (ahead_of modules tag)

@@ -16,21 +16,21 @@ use Rattle.pol_history.specs.Answers.{answer_of}
 use Rattle.pol_history.specs.Runs.{run_after}
 use Rattle.pol_removal.specs.Removal.{is_of}
 
--- by both pasts of one tag the same module stands there, or none: it is docked or away alike, was docked and taken out
--- as often, and has the same description
+-- by both pasts of one tag the same module is there, or none: it is docked or away alike, was docked and taken out as
+-- often, and has the same description
 pub record StandsSame (whole less : History) : Type 0 where
   pub docking : docking_by less ≡ docking_by whole
   pub dockings : dockings_by less ≡ dockings_by whole
   pub begins : begins_by less ≡ begins_by whole
   pub description : description_by less ≡ description_by whole
 
--- and it told the same, so the pasts look the same to every rule
+-- by both pasts of one tag the same module is there and reported the same, so the pasts look the same to every rule
 pub record LooksSame (whole less : History) : Type 0 where
   pub stands : StandsSame whole less
   pub control : (service : List ℕ) → control_by service less ≡ control_by service whole
   pub value : (name : List ℕ) → value_by name less ≡ value_by name whole
 
--- the tag isn't there by either past, or they look the same
+-- the tag is absent by both pasts, or both pasts look the same to every rule
 abbrev pub IsSameModule : History → History → Type 0
 IsSameModule whole less = ((docking_by whole ≡ absent) × (docking_by less ≡ absent)) ⊎ LooksSame whole less
 
@@ -59,7 +59,8 @@ pub record BatchesAlike (gone : List (List ℕ)) (whole less : History) : Type 0
   pub fewer : length less ≤ length whole
   pub listed : started_batches less ≡ filter (λ batch. not (is_among gone batch)) (started_batches whole)
 
--- the plant after the whole history and the one after such a shorter one: the modules are the same too
+-- the plants after the whole history and after a shorter one, in which some closed batches are forgotten: the batches
+-- are alike, and the modules are the same
 pub record AnswersAlike (gone : List (List ℕ)) (whole less : History) : Type 0 where
   pub running : BatchesAlike gone whole less
   pub modules : (tag : List ℕ) → IsSameModule (past tag whole) (past tag less)
@@ -71,12 +72,12 @@ is_of_fullness HistoryFull = true
 is_of_fullness BatchesFull = true
 is_of_fullness _ = false
 
--- the answer refuses an event for that
+-- the answer refuses an event because the history, or the list of batches, is full
 abbrev pub is_refused_as_full : Answer → Bool
 is_refused_as_full (Refused rule) = is_of_fullness rule
 is_refused_as_full _ = false
 
--- two plants that are alike answer alike each event that names no forgotten batch and isn't refused as full
+-- Two plants that are alike answer alike each event that names no forgotten batch and isn't refused as full.
 abbrev pub AlikeAnswersAlike : Type 0
 AlikeAnswersAlike =
     (gone : List (List ℕ)) (whole less : History) → AnswersAlike gone whole less → (event : PlainEvent) →
@@ -88,11 +89,12 @@ AlikeAnswersAlike =
 abbrev pub is_passed : List (List ℕ) → PlainEntry → Bool
 is_passed gone entry = is_of [] gone (subject entry.event) || is_refused_as_full entry.answer
 
--- the entries of later events that have one
+-- the entries of later events that have a counterpart after the shorter history
 abbrev pub later_entries : List (List ℕ) → List PlainEntry → List PlainEntry
 later_entries gone entries = filter (λ entry. not (is_passed gone entry)) entries
 
--- whatever comes later, two plants that are alike answer alike all that isn't passed
+-- Whatever comes later, two plants that are alike answer alike all that names no forgotten batch and isn't refused as
+-- full.
 abbrev pub LaterAnswersAlike : Type 0
 LaterAnswersAlike =
     (gone : List (List ℕ)) (whole less : History) → AnswersAlike gone whole less → (later : List PlainEvent) →

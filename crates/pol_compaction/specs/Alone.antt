@@ -8,7 +8,7 @@ use Rattle.pol_compaction.specs.Lasting.{is_lasting}
 abbrev pub lasting : List PlainEvent → List PlainEntry
 lasting events = filter (is_lasting (history_after [] events)) (run_of events)
 
--- the events that last, run by themselves, are answered as they were
+-- The events that last, run by themselves, are answered as they were.
 abbrev pub LastingRunAlone : Type 0
 LastingRunAlone =
     (events : List PlainEvent) → AreOrderly events →

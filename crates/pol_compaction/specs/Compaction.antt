@@ -1,5 +1,5 @@
--- Which entries of a history stay where it is compacted. Entries that come later than a given one stand here the oldest
--- first, those before it the newest first.
+-- Which entries of a history stay where it is compacted. Entries that come later than a given one are listed here the
+-- oldest first, those before it the newest first.
 use Rattle.std.specs.Prelude.{Bool, true, false, not, ◌&&◌, List, [], ◌∷◌, filter, map, reverse, if◌then◌else◌}
 use Rattle.pol_events.specs.Events.{PlainEvent, plug, unplug, report, variable, exchange_begin, exchange_end}
 use Rattle.pol_events.specs.Events.{exchange_cancel, PlainEntry}
@@ -9,8 +9,8 @@ use Rattle.pol_compaction.specs.Lasting.{is_lasting}
 use Rattle.pol_compaction.specs.Reading.{is_replaced, is_read}
 use Rattle.pol_compaction.specs.Marks.{marks_of, report_stays, value_stays}
 
--- an event that lasts stays, between those that last before it and those that last after it: no event of a module does
--- that is replaced later, and of a module's reports and values those do that something can still ask for
+-- an event that lasts stays, between those that last before it and those that last after it: no event of a module that
+-- is replaced later stays, and of a module's reports and values those stay that something can still ask for
 abbrev pub stays_between : History → History → List PlainEntry → PlainEvent → Bool
 stays_between whole older newer (unplug at tag) = false
 stays_between whole older newer (plug at tag description) = not (is_replaced tag newer)
@@ -38,6 +38,6 @@ kept_from whole older (entry ∷ newer) =
 abbrev pub compacted : History → List PlainEntry
 compacted history = kept_from history [] (reverse (filter (is_lasting history) history))
 
--- their events
+-- the events of a history that stay where it is compacted, the oldest first
 abbrev pub compacted_events : History → List PlainEvent
 compacted_events history = map (λ (entry : PlainEntry). entry.event) (compacted history)

@@ -109,7 +109,7 @@ example props =
     ∷ []
 
 -- what stays: the plug of M, the recipe, both events of the exchange, what the start of b2 reads, that start, what its
--- advance reads, that advance, and what was told since then, but for the first of two reports of one state
+-- advance reads, that advance, and what was reported since then, but for the first of two reports of one state
 abbrev pub example_kept : Props → List PlainEntry
 example_kept props =
     answered (plug 0 module_m props.description) Done
@@ -126,7 +126,7 @@ example_kept props =
     ∷ level_is (props.value 4)
     ∷ []
 
--- the example is compacted to what stays, and that once more to itself
+-- The example is compacted to what stays, and that once more to itself.
 abbrev pub ExampleIsCompacted : Type 0
 ExampleIsCompacted = (props : Props) →
     (compacted (reverse (example props)) ≡ example_kept props)

@@ -6,7 +6,7 @@ use Rattle.pol_compaction.specs.Lasting.{is_lasting}
 use Rattle.pol_compaction.specs.Reading.{is_read}
 use Rattle.pol_compaction.specs.Compaction.{stays_between, kept_before, compacted}
 
--- those of these entries that last
+-- the entries among these that last
 abbrev pub lasting_in : History → List PlainEntry → List PlainEntry
 lasting_in whole entries = filter (is_lasting whole) entries
 
@@ -17,13 +17,13 @@ stay_flags whole older (entry ∷ newer) =
     (is_lasting whole entry && stays_between whole (lasting_in whole older) (lasting_in whole newer) entry.event)
     ∷ stay_flags whole (entry ∷ older) newer
 
--- the entries beside whose place the flag is up
+-- the entries whose flag is up
 abbrev pub flagged : List Bool → List PlainEntry → List PlainEntry
 flagged [] entries = []
 flagged (flag ∷ flags) [] = []
 flagged (flag ∷ flags) (entry ∷ entries) = kept_before flag entry (flagged flags entries)
 
--- the flagged entries of a history are those to which it is compacted
+-- The flagged entries of a history are those to which it is compacted.
 abbrev pub FlagsAreCompaction : Type 0
 FlagsAreCompaction =
     (history : History) → flagged (stay_flags history [] (reverse history)) (reverse history) ≡ compacted history

@@ -11,8 +11,8 @@ abbrev pub events_without_closed : List PlainEvent → List PlainEvent
 events_without_closed events =
     map (λ (entry : PlainEntry). entry.event) (entries_of_others (closed_batches (history_after [] events)) events)
 
--- the plant of these events answers whatever comes later as the plant of all events does, but for what names a closed
--- batch or was refused as full
+-- Without the events of its closed batches and those refused for another's sake a plant answers whatever comes later as
+-- before, but for what names one of these batches or was refused as full.
 abbrev pub ClosedMayBeForgotten : Type 0
 ClosedMayBeForgotten =
     (events later : List PlainEvent) → AreOrderly events →

@@ -21,8 +21,8 @@ KeptIsAnsweredAgain =
     (events : List PlainEvent) → AreOrderly events →
     run_of (compacted_events (history_after [] events)) ≡ compacted (history_after [] events)
 
--- And whatever comes later is answered after them as after the whole history, but for what names a batch that was
--- closed there and what is refused there as full.
+-- Whatever comes later is answered after the events that stay as after the whole history, but for what names a batch
+-- that was closed there and what is refused there as full.
 abbrev pub LaterIsAnsweredAlike : Type 0
 LaterIsAnsweredAlike =
     (events later : List PlainEvent) → AreOrderly events →
@@ -34,7 +34,8 @@ LaterIsAnsweredAlike =
 abbrev pub CompactionIsNoLonger : Type 0
 CompactionIsNoLonger = (history : History) → length (compacted history) ≤ length history
 
--- The lines of the batches that weren't closed there are the same, in the same order, after whatever comes later.
+-- The lines of the batches that weren't closed in the whole history are the same after compaction, in the same order,
+-- after whatever comes later.
 abbrev pub LinesStay : Type 0
 LinesStay =
     (events later : List PlainEvent) → AreOrderly events →

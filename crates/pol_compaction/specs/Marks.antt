@@ -1,5 +1,5 @@
--- What happens to one service or one variable of a module, as marks: it is told, the module is read, the module is
--- moved. By the first mark that comes after it a report stays or goes, and so does a value.
+-- What happens to one service or one variable of a module, as marks: it is reported, the module is read, or the module
+-- is moved. The first mark after a report or a value decides whether it stays.
 use Rattle.std.specs.Prelude.{ℕ, Bool, true, false, not, ◌&&◌, List, [], ◌∷◌, filter_map, Option, Some, None}
 use Rattle.std.specs.Prelude.{option_map, if◌then◌else◌}
 use Rattle.mtp_codes.specs.declared.state.State.{State}

@@ -17,6 +17,6 @@ is_subject_noted named (of_module tag) = is_noted named tag
 is_subject_noted named (of_batch batch) = false
 is_subject_noted named (of_recipe name) = false
 
--- those modules are noted that one of these entries, the newest first, read since they were moved last
+-- just the modules are noted that one of these entries, the newest first, read since they were moved last
 abbrev pub AreRead : History → List (List ℕ × Bool) → History → Type 0
 AreRead whole named older = (tag : List ℕ) → is_noted named tag ≡ is_read whole tag (lasting_in whole older)

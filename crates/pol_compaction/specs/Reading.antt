@@ -23,11 +23,11 @@ is_replacing _ = false
 abbrev pub replaces : List ℕ → PlainEvent → Bool
 replaces tag event = is_module tag (subject event) && is_replacing event
 
--- one of the entries does
+-- one of the entries puts another module in the tag's place, or none
 abbrev pub is_replaced : List ℕ → List PlainEntry → Bool
 is_replaced tag entries = list_any (λ entry. replaces tag entry.event) entries
 
--- what a batch was started with binds, held or watched; nothing, where it wasn't started
+-- the binds that a batch was started with, held or watched; none where it wasn't started
 abbrev pub started_binds : Option Started → List Bind
 started_binds None = []
 started_binds (Some started) = given started.binds
@@ -38,7 +38,7 @@ read_binds whole (start at batch name binds) = given binds
 read_binds whole (advance at batch) = started_binds (start_of whole batch)
 read_binds whole _ = []
 
--- the event reads the module: it is bound there
+-- the event reads the module: one of the binds that it reads is of the module
 abbrev pub reads : History → List ℕ → PlainEvent → Bool
 reads whole tag event = is_among (tags_of (read_binds whole event)) tag
 

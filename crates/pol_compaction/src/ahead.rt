@@ -18,13 +18,13 @@ use std::alloc::{AllocError, Global};
 pub enum Fate {
     /// It stays.
     Stays,
-    /// It stays where its module was read since it was moved last.
+    /// It stays where its module was read since the module was moved last.
     StaysIfRead,
     /// It goes.
     Goes,
 }
 
-/// What happens to a module beside what it tells.
+/// What happens to a module beside what it reports.
 #[derive(Clone, Copy)]
 pub enum Turn {
     /// A batch reads it.
@@ -42,7 +42,7 @@ pub struct Ahead {
     pub turn: Option<Turn>,
     /// What its services report next, where they do before that.
     pub controls: IndexMap<Name, ServiceControl>,
-    /// The next values of its variables, likewise.
+    /// The next values of its variables, where they are reported before that.
     pub values: IndexMap<Name, Value>,
 }
 
@@ -65,7 +65,7 @@ fn report_fate(state: State, next: Option<ServiceControl>, turn: Option<Turn>) -
     }
 }
 
-// The fate of a value, likewise.
+// The fate of a value, by the next value of its variable before the module's next turn.
 fn value_fate(next: Option<Value>, turn: Option<Turn>) -> Fate
     ensures { result ≡ value_fate (mark_ahead next turn) }
 {
@@ -95,7 +95,7 @@ impl Ahead {
         if self.replaced { Fate::Goes } else { fate }
     }
 
-    // It is read or moved, before all that was ahead.
+    // The module is read or moved, before all that was ahead.
     fn turn_to(&mut self, turn: Turn, replaced: bool)
         ensures { plain_ahead self.new ≡ turned turn replaced }
     {

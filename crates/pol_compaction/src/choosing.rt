@@ -48,8 +48,8 @@ fn is_moving(event: &Event) -> bool
     )
 }
 
-// Notes the modules that the entry reads, one that is newer than those that were looked at; a module that it moves
-// isn't read since.
+// Notes the modules that the entry reads, which is newer than the entries that were looked at; a module that it moves
+// wasn't read since.
 fn note_read(whole: &Whole<'_, '_>, read: &mut Noted, entry: &Entry) -> Result<(), AllocError>
     ensures { OnOk result ((older : History)
         → AreRead (plain_history whole.now) read.old.named.entries older
@@ -104,8 +104,8 @@ fn stay_flags(
 
 /// Whether each entry of a history stays where it is compacted, one flag an entry. It looks over the history once back
 /// and once forward; of an entry it asks only what is known of its module then. Beside a fate and a flag for each entry
-/// it keeps the starts and logs of all batches, and of each module what its services and variables tell next, one value
-/// of each.
+/// it keeps the starts and logs of all batches, and of each module what its services and variables report next, one
+/// value of each.
 pub fn kept(alloc: Global, history: &[Entry]) -> Result<Vec<bool>, AllocError>
     ensures flags { IfOk result (λ flags. flags.items
         ≡ stay_flags (plain_history history.now) [] (map plain_entry history.now)) }

@@ -1,8 +1,8 @@
-//! Compaction of a journal: which entries of a history stay, such that the same plant goes on from them alone. What it
-//! means stands in `specs/Compaction.antt`, and that nothing later can tell is the contract of functions with an empty
-//! body. Which entries stay is told as flags, by one look back over the history and one forward (`kept`).
+//! Compacts a journal: finds which entries of a history stay, such that the same plant goes on from them alone.
+//! `specs/Compaction.antt` defines which ones stay, and that nothing later can tell the difference is the contract of
+//! functions with an empty body. `kept` gives a flag for each entry, by one look back over the history and one forward.
 //!
-//! It knows nothing of disks, lines or jobs, nor of how an answer is found.
+//! This crate knows nothing of disks, lines or jobs, nor of how an answer is found.
 //!
 //! No test tries it.
 #![tactic(auto)]

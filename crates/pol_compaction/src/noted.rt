@@ -12,7 +12,7 @@ use mtp_codes::Name;
 use pol_events::{Bind, Event, Subject};
 use std::alloc::{AllocError, Global};
 
-/// Names, each of which is noted or isn't; no other is.
+/// Names, each of which is noted or isn't; no other name is noted.
 #[derive(Drop)]
 pub struct Noted {
     pub named: IndexMap<Name, bool>,
@@ -48,7 +48,7 @@ impl Noted {
         }
     }
 
-    /// Has this name be noted, or not.
+    /// Makes this name noted, or not noted.
     pub fn put(&mut self, name: Name, noted: bool) -> Result<(), AllocError>
         ensures { OnOk result ((other : List ℕ) → is_noted self.new.named.entries other
             ≡ (if bytes_eq name other then noted else is_noted self.old.named.entries other)) }

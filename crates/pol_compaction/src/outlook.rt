@@ -15,7 +15,7 @@ use mtp_codes::Name;
 use pol_events::{Bind, Entry, Event, Subject};
 use std::alloc::{AllocError, Global};
 
-/// What lies ahead of each module; nothing does of those that aren't listed.
+/// What lies ahead of each module; nothing lies ahead of a module that isn't listed.
 #[derive(Drop)]
 pub struct Outlook {
     pub alloc: Global,

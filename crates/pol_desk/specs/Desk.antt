@@ -1,4 +1,4 @@
--- What a command of the operator's is answered.
+-- The answer to a command of the operator's.
 use Rattle.std.specs.Prelude.{ℕ, List, Result}
 use Rattle.mtp_codes.specs.Faults.{unless}
 use Rattle.mtp_codes.specs.declared.command.Command.{Command}

@@ -1,4 +1,4 @@
-//! A command of the operator's.
+//! The answer to a command of the operator's.
 ghost use Rattle.std.specs.Prelude.{◌≡◌};
 ghost use Rattle.pol_desk.specs.Desk.{desk_answer};
 
@@ -7,12 +7,12 @@ use mtp_codes::{Command, Name, Speaker};
 use mtp_modes::{ServiceView, permitted};
 use pol_events::Rule;
 
-/// What a command of the operator's to a service is answered: the entry `Asked`, by which the command goes to the
+/// The answer to a command of the operator's to a service: the entry `Asked`, by which the command goes to the
 /// module. `view` is what the service last reported. A Start asks for the service's default procedure.
 ///
 /// `ModeForbids` where the service isn't in mode Operator, `SelfCompletes` for Complete to a procedure that completes
-/// by itself, `StateForbids` where the command doesn't leave the state, `NotEnabled` where `CommandEn` hasn't its bit
-/// (VDI/VDE/NAMUR 2658 part 4); the first of these is told.
+/// by itself, `StateForbids` where the command doesn't leave the state, `NotEnabled` where its bit of `CommandEn` isn't
+/// set (VDI/VDE/NAMUR 2658 part 4); the first of these that holds is the answer.
 pub fn desk(
     tag: Name,
     service: Name,

@@ -1,4 +1,4 @@
--- What a value is, compared part by part: the steps of the loops, and what is told where all parts are the same.
+-- What a value is, compared part by part: the steps of the loops, and what follows where all parts are the same.
 use Rattle.std.proofs.Common.{◌≡◌, ◌<◌, ◌≤◌, ◌∷◌, [], ◌++◌, ◌==◌, ◌^◌, ℕ, ℤ, pos, negsuc, suc, length, map, List, Bool}
 use Rattle.std.proofs.Common.{true, false, Some, None, refl, sym, ap, ◌∙◌, arith, if◌then◌else◌}
 use Rattle.std.proofs.lemmas.Bool.{and_parts, eqb-true, le-leb}
@@ -43,7 +43,7 @@ pub fields_left : (fields : List Field) → 0 < length fields → false ≡ are_
 fields_left [] some = absurd (omega arith)
 fields_left (field ∷ fields) some = refl
 
--- ---- what is told where all parts are the same
+-- ---- what follows where all parts are the same
 
 -- a bit that is compared equal to another has the value of the other
 bit_is : (bit other : Bool) → same_bit bit other ≡ true → boolean other ≡ boolean bit
@@ -104,7 +104,7 @@ readings_are (reading ∷ others) (item value rest) same =
     let both = and_parts (is_reading reading value) (are_readings others rest) same in
     rw (reading_is reading value both.0, readings_are others rest both.1) refl
 
--- a value that is compared equal to what a field tells is the value of that
+-- a value that is compared equal to the value of a field is that value
 value_is : (told : PlainFieldValue) (value : Data) → is_value told value ≡ true → value ≡ value_data told
 value_is (text told) (string found) same = ap string ((bytes_eq-Decides found told).0 same)
 value_is (text told) null same = absurd cc
@@ -148,7 +148,7 @@ object_is fields (number_data n) same = absurd cc
 object_is fields (string s) same = absurd cc
 object_is fields (array s) same = absurd cc
 
--- ---- what is told of itself
+-- ---- values are compared equal to themselves
 
 -- a bit is compared equal to itself
 bit_same : (bit : Bool) → same_bit bit bit ≡ true
@@ -170,7 +170,7 @@ readings_same : (told : List Reading) → are_readings told (items_of (map readi
 readings_same [] = refl
 readings_same (reading ∷ others) = rw (reading_same reading, readings_same others) refl
 
--- the value of what a field tells is compared equal to that
+-- the value of a field is compared equal to the field's value
 value_same : (told : PlainFieldValue) → is_value told (value_data told) ≡ true
 value_same (text told) = same_refl told
 value_same (number told) = number_same told

@@ -44,7 +44,7 @@ line_json (Ok own) fault is = go (fault_within own) is
     go None is = absurd cc
     go (Some other) is = absurd cc
 
--- no line that was read is told as too long
+-- no line that was read is answered as too long
 pub line_short : (said : ReadResult PlainEvent) → of_line said ≡ Err TooLong → ⊥
 line_short (Err other) is = absurd cc
 line_short (Ok own) is = go (fault_within own) is

@@ -203,7 +203,7 @@ outcome_told Broken = refl
 outcome_told Stopped = refl
 outcome_told Abandoned = refl
 
--- what tells two values tells them apart
+-- two values of which the same is said are the same, where each value is found again by what is said of it
 told_apart : {A B : Type 0} (told : A → B) (back : B → Option A) → ((x : A) → back (told x) ≡ Some x) → (x y : A)
     → told x ≡ told y → x ≡ y
 told_apart told back again x y same = let both : Some x ≡ Some y = sym (again x) ∙ ap back same ∙ again y in cc

@@ -141,7 +141,7 @@ answer_is value answer is =
 
 -- ---- each object is said
 
--- what is told passes the check of the object of its own fields
+-- what an object says passes the check of the object of its own fields
 checked_again : {A : Type 0} (fields : A → List PlainField) (told : Option A) (found : A)
     → told ≡ Some found → checked fields (fields_data (fields found)) told ≡ Some found
 checked_again fields told found is =

@@ -21,20 +21,20 @@ use Rattle.pol_entries.specs.Candidates.{entry_named, obstacle_named, outcome_na
 use Rattle.pol_entries.specs.Compared.{is_object, is_there, same_bit}
 use Rattle.pol_entries.specs.Found.{lookup_in, number_at, text_at}
 
--- what an object may tell, if the object is the one of its fields
+-- what an object may say, if the object is the one of its fields
 abbrev pub checked : {A : Type 0} → (A → List PlainField) → Data → Option A → Option A
 checked fields value None = None
 checked fields value (Some told) = if is_object (fields told) value then Some told else None
 
--- the rule of a refusal
+-- the rule of the refusal that the object says
 abbrev pub rule_in : Data → Option Rule
 rule_in value = checked refusal_fields value (rule_numbered (number_at (codes "refused") value) (lookup_in value))
 
--- an entry of a log
+-- the entry of a log that the object says
 abbrev pub entry_in : Data → Option LogEntry
 entry_in value = checked entry_fields value (entry_named (text_at (codes "do") value) (lookup_in value))
 
--- an obstacle
+-- the obstacle that the object says
 abbrev pub obstacle_in : Data → Option Why
 obstacle_in value = checked obstacle_fields value (obstacle_named (text_at (codes "wait") value) (lookup_in value))
 
@@ -42,7 +42,7 @@ obstacle_in value = checked obstacle_fields value (obstacle_named (text_at (code
 abbrev pub closed_fields : Outcome → List PlainField
 closed_fields outcome = text_field (codes "closed") (outcome_name outcome) ∷ []
 
--- an outcome
+-- the outcome that the object says
 abbrev pub outcome_in : Data → Option Outcome
 outcome_in value = checked closed_fields value (outcome_named (text_at (codes "closed") value))
 
@@ -50,11 +50,11 @@ outcome_in value = checked closed_fields value (outcome_named (text_at (codes "c
 abbrev pub ticket_fields : ℕ → List PlainField
 ticket_fields ticket = number_field (codes "ticket") ticket ∷ []
 
--- a ticket
+-- the ticket that the object says
 abbrev pub ticket_in : Data → Option ℕ
 ticket_in value = checked ticket_fields value (Some (number_at (codes "ticket") value))
 
--- the value of a member that stands alone under this key
+-- the value of the only member, where it has this key
 abbrev pub alone_in : List ℕ → Members → Option Data
 alone_in key no_members = None
 alone_in key (member other value no_members) = if bytes_eq other key then Some value else None
@@ -64,12 +64,12 @@ alone_in key (member other value (member _ _ _)) = None
 abbrev pub alone : List ℕ → Data → Option Data
 alone key value = option_and_then (alone_in key) (as_object value)
 
--- that it was done
+-- the answer Done, where the object says it
 abbrev pub done_in : Data → Option Answer
 done_in value =
     if is_there (is_there (same_bit true)) (option_map as_bool (alone (codes "done") value)) then Some Done else None
 
--- the key is there
+-- the object has the key
 abbrev pub has : List ℕ → Data → Bool
 has key value = is_some (get key value)
 
@@ -82,7 +82,7 @@ answer_in value =
     else (if has (codes "did") value then option_map Did (option_and_then entry_in (alone (codes "did") value))
     else (if has (codes "ticket") value then option_map Ticket (ticket_in value) else done_in value))))
 
--- an answer, or that the value is none
+-- the answer that was found, or that the value is no answer's object
 abbrev pub or_unsound : Option Answer → Finding Answer
 or_unsound None = Err Unsound
 or_unsound (Some answer) = Ok answer

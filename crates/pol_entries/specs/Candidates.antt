@@ -1,4 +1,4 @@
--- What may be told, by a name or a number: each kind of answer with what stands under its keys.
+-- What an object may say, by a name or a number: each kind of answer with what is under its keys.
 use Rattle.std.specs.Prelude.{ℕ, List, [], ◌∷◌, map, codes, Option}
 use Rattle.mtp_codes.specs.Codes.{named_by}
 use Rattle.mtp_json.specs.Leaf.{meaning_of}
@@ -24,7 +24,7 @@ use Rattle.pol_record.specs.Rows.{entry_row, obstacle_row}
 use Rattle.pol_record.specs.Texts.{outcome_name}
 use Rattle.pol_entries.specs.Found.{Lookup}
 
--- each rule
+-- each rule, with what is under its keys
 abbrev pub every_rule : Lookup → List Rule
 every_rule told =
     TagTaken
@@ -73,7 +73,7 @@ every_rule told =
 abbrev pub rule_numbered : ℕ → Lookup → Option Rule
 rule_numbered number told = named_by number (map (λ rule. (rule, (rule_row rule).number)) (every_rule told))
 
--- each entry of a log
+-- each entry of a log, with what is under its keys
 abbrev pub every_entry : Lookup → List LogEntry
 every_entry told =
     entry.Start (told.name (codes "step")) (told.name (codes "tag")) (told.name (codes "service"))
@@ -97,7 +97,7 @@ every_entry told =
 abbrev pub entry_named : List ℕ → Lookup → Option LogEntry
 entry_named name told = meaning_of name (map (λ entry. ((entry_row entry).name, entry)) (every_entry told))
 
--- each obstacle
+-- each obstacle, with what is under its keys
 abbrev pub every_obstacle : Lookup → List Why
 every_obstacle told =
     why.Frozen

@@ -9,7 +9,7 @@ use Rattle.mtp_codes.specs.declared.value.Reading.{Reading}
 use Rattle.mtp_codes.specs.declared.value.Reading.TheVariants.{Whole, Bit}
 use Rattle.event_json.specs.Fields.{PlainField, PlainFieldValue, in_order, number, readings, text}
 
--- something is there that passes the test
+-- a value is there and passes the test
 abbrev pub is_there : {A : Type 0} → (A → Bool) → Option A → Bool
 is_there test None = false
 is_there test (Some found) = test found

@@ -28,7 +28,7 @@ entry_form value =
 abbrev pub read_of : List ℕ → ReadResult PlainEntry
 read_of line = here (json_of line) >>= entry_form
 
--- what was read, with its fault as a fault of the line; where all was read, the chart of its event is asked
+-- what was read, with its fault as a fault of the line; where all was read, the chart of its event is checked
 abbrev pub of_line : ReadResult PlainEntry → Result PlainEntry LineFault
 of_line read = of_read (λ entry. entry.event) read
 
@@ -40,12 +40,12 @@ entry_of line = of_line (read_of line)
 abbrev pub Tells : Result Entry LineRefusal → Result PlainEntry LineFault → Type 0
 Tells result said = TellsAs plain_entry result said
 
--- what was read is this, of which the chart may have a fault
+-- this value was read and its chart has no fault, or some value was read whose chart has this fault
 abbrev pub Sound : {X Y : Type 0} → (X → Y) → (Y → PlainEvent) → Result X ChartFault → ReadResult Y → Type 0
 Sound view its (Ok value) read = (read ≡ Ok (view value)) × (fault_within (its (view value)) ≡ None)
 Sound {Y = Y} view its (Err fault) read = (value : Y) × (read ≡ Ok value) × (fault_within (its value) ≡ Some fault)
 
--- what was read, of which the chart may have a fault; or its first fault, unless there was no memory
+-- a value was read, the chart of which may have a fault; or reading found its first fault, unless there was no memory
 abbrev pub ReadsAs : {X Y : Type 0} → (X → Y) → (Y → PlainEvent) → Result (Result X ChartFault) JsonRefusal
     → ReadResult Y
     → Type 0

@@ -1,4 +1,4 @@
--- What stands under the keys of an object, with a stand-in where nothing of the kind stands there.
+-- What is under the keys of an object, with a stand-in where nothing of the kind is there.
 use Rattle.std.specs.Prelude.{ℕ, nat_le, List, [], ◌∷◌, codes, pos, unwrap_or, Bool, Ok, Err, if◌then◌else◌}
 use Rattle.serde_json.specs.Data.{Data, Items, no_items, item}
 use Rattle.serde_json.specs.Events.{items_len}
@@ -18,7 +18,7 @@ use Rattle.mtp_json.specs.Leaf.{count, items, meaning_of, name, text, truth, who
 use Rattle.mtp_json.specs.ReadResult.{Finding}
 use Rattle.pol_record.specs.Rows.{forbid_name}
 
--- what was found, or what stands for it
+-- what was found, or the stand-in for it
 abbrev pub found_or : {A : Type 0} → A → Finding A → A
 found_or blank (Ok found) = found
 found_or blank (Err kind) = blank
@@ -31,7 +31,7 @@ text_at key value = found_or [] (field key text value)
 abbrev pub name_at : List ℕ → Data → List ℕ
 name_at key value = found_or (codes "-") (field key name value)
 
--- a number, if it is no greater than this
+-- a number, if it is no greater than this; else 0
 abbrev pub up_to : ℕ → ℕ → ℕ
 up_to greatest number = if nat_le number greatest then number else 0
 
@@ -43,11 +43,11 @@ number_at key value = up_to greatest_u32 (found_or 0 (field key (count 0 greates
 abbrev pub half_at : List ℕ → Data → ℕ
 half_at key value = up_to 65535 (number_at key value)
 
--- the state whose code stands under a key
+-- the state whose code is under a key
 abbrev pub state_at : List ℕ → Data → State
 state_at key value = unwrap_or (state_of (number_at key value) state_codes) Idle
 
--- the command whose code stands under a key
+-- the command whose code is under a key
 abbrev pub command_at : List ℕ → Data → Command
 command_at key value = unwrap_or (command_of (number_at key value) command_codes) Reset
 
@@ -78,7 +78,7 @@ abbrev pub each_reading : Items → List Reading
 each_reading no_items = []
 each_reading (item value rest) = reading_of value ∷ each_reading rest
 
--- at most four readings
+-- the items as readings, if they are at most four; else none
 abbrev pub few_readings : Items → List Reading
 few_readings values = if nat_le (items_len values) MOST_READS then each_reading values else []
 
@@ -86,7 +86,7 @@ few_readings values = if nat_le (items_len values) MOST_READS then each_reading 
 abbrev pub readings_at : List ℕ → Data → List Reading
 readings_at key value = few_readings (found_or no_items (field key items value))
 
--- what stands under each key
+-- what is under each key, read as each kind of value
 pub record Lookup : Type 0 where
   pub name : List ℕ → List ℕ
   pub number : List ℕ → ℕ
@@ -96,7 +96,7 @@ pub record Lookup : Type 0 where
   pub forbid : List ℕ → Forbid
   pub readings : List ℕ → List Reading
 
--- the same of an object
+-- what is under each key of an object
 abbrev pub lookup_in : Data → Lookup
 lookup_in value =
     record {

@@ -17,14 +17,14 @@ same_reading (Whole z) (Bit bit) = false
 same_reading (Bit bit) (Whole z) = false
 same_reading (Bit bit) (Bit other) = same_bit bit other
 
--- two lists of readings are
+-- two lists of readings are the same
 abbrev pub same_readings : List Reading → List Reading → Bool
 same_readings [] [] = true
 same_readings [] (other ∷ others) = false
 same_readings (reading ∷ told) [] = false
 same_readings (reading ∷ told) (other ∷ others) = same_reading reading other && same_readings told others
 
--- two values of fields are
+-- two values of fields are the same
 abbrev pub same_value : PlainFieldValue → PlainFieldValue → Bool
 same_value (text told) (text other) = bytes_eq told other
 same_value (number told) (number other) = told == other
@@ -33,18 +33,18 @@ same_value (text told) _ = false
 same_value (number told) _ = false
 same_value (readings told) _ = false
 
--- two fields are
+-- two fields are the same
 abbrev pub same_field : PlainField → PlainField → Bool
 same_field field other = bytes_eq field.key other.key && same_value field.value other.value
 
--- two lists of fields are
+-- two lists of fields are the same
 abbrev pub same_fields : List PlainField → List PlainField → Bool
 same_fields [] [] = true
 same_fields [] (other ∷ others) = false
 same_fields (field ∷ told) [] = false
 same_fields (field ∷ told) (other ∷ others) = same_field field other && same_fields told others
 
--- two answers are
+-- two answers are the same
 abbrev pub same_answer : Answer → Answer → Bool
 same_answer Done Done = true
 same_answer (Ticket ticket) (Ticket other) = ticket == other

@@ -1,4 +1,4 @@
-//! What an object may tell, by the name or the number in it, with what stands under its keys.
+//! What an object may say, by the name or the number in it, with what is under its keys.
 ghost use Rattle.std.specs.Prelude.{◌≡◌, codes};
 ghost use Rattle.serde_json.specs.View.{view};
 ghost use Rattle.pol_entries.specs.Found.{lookup_in, name_at};

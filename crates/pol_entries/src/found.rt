@@ -1,4 +1,4 @@
-//! What stands under the keys of an object, with a stand-in where nothing of the kind stands there.
+//! What is under the keys of an object, with a stand-in where nothing of the kind is there.
 ghost use Rattle.std.specs.Prelude.{◌≡◌, codes, pos};
 ghost use Rattle.mtp_codes.specs.Numbers.{greatest_i64, least_i64};
 ghost use Rattle.mtp_codes.specs.declared.value.Reading.TheVariants.{Whole};
@@ -60,14 +60,14 @@ pub fn half_at(value: &Value, key: &str) -> u16
     }
 }
 
-/// The state whose code stands under a key.
+/// The state whose code is under a key.
 pub fn state_at(value: &Value, key: &str) -> State
     ensures { result ≡ state_at key.now (view value.now) }
 {
     State::of_code(number_at(value, key)).unwrap_or(State::Idle)
 }
 
-/// The command whose code stands under a key.
+/// The command whose code is under a key.
 pub fn command_at(value: &Value, key: &str) -> Command
     ensures { result ≡ command_at key.now (view value.now) }
 {

@@ -14,7 +14,7 @@ use Rattle.pol_history.proofs.Accepted.{paired}
 
 -- ---- an event of a module
 
--- an accepted event stands in the past of its module
+-- an accepted event is in the past of its module
 pub past_own : (history : History) (entry : PlainEntry) (tag : List ℕ) → subject entry.event ≡ of_module tag →
     is_accepted entry.answer ≡ true → past tag (entry ∷ history) ≡ entry ∷ past tag history
 past_own history entry tag is accepted =
@@ -47,7 +47,7 @@ module_recipes_same history entry tag is =
 
 -- ---- an event of a batch
 
--- an accepted event stands in the past of its batch
+-- an accepted event is in the past of its batch
 pub batch_past_own : (history : History) (entry : PlainEntry) (batch : List ℕ) → subject entry.event ≡ of_batch batch →
     is_accepted entry.answer ≡ true → past_of_batch batch (entry ∷ history) ≡ entry ∷ past_of_batch batch history
 batch_past_own history entry batch is accepted =
@@ -93,7 +93,7 @@ recipe_batch_past_same history entry name batch is =
 
 -- ---- a log
 
--- an entry that was done stands at the log's end
+-- an entry that was done is at the log's end
 pub log_grows : (past : History) (event : PlainEvent) (entry : LogEntry) →
     log_by (paired event (Did entry) ∷ past) ≡ log_by past ++ entry ∷ []
 log_grows past event entry = reverse-append (entry ∷ []) (filter_map (λ entry. taken entry.answer) past)

@@ -1,4 +1,4 @@
--- The rules of each kind of event in their order, and the answer.
+-- The rules that can refuse each kind of event, in their order, and the answer to an event.
 use Rattle.std.specs.Prelude.{ℕ, Bool, ◌||◌, nat_le, List, [], ◌∷◌, length, Option, Some, None, if◌then◌else◌}
 use Rattle.std.specs.Prelude.{option_and_then}
 use Rattle.mtp_codes.specs.Faults.{when}

@@ -20,7 +20,7 @@ pub record Started : Type 0 where
   pub recipe : List ℕ
   pub binds : PlainAllocation
 
--- the start that an event is
+-- what an event starts a batch with; none where it isn't a start
 abbrev pub starting : PlainEvent → Option Started
 starting (start at batch name binds) = Some (record { recipe = name; binds = binds })
 starting _ = None
@@ -33,7 +33,7 @@ start_by past = last_of (λ entry. starting entry.event) past
 abbrev pub start_of : History → List ℕ → Option Started
 start_of history batch = start_by (past_of_batch batch history)
 
--- the chart that a recipe of this name brings
+-- the chart that an event brings, where it is a recipe of this name
 abbrev pub charted : List ℕ → PlainEvent → Option PlainChart
 charted name (recipe at other chart) = if bytes_eq other name then Some chart else None
 charted name _ = None
@@ -42,7 +42,7 @@ charted name _ = None
 abbrev pub chart_named : List ℕ → History → Option PlainChart
 chart_named name recipes = last_of (λ entry. charted name entry.event) recipes
 
--- the chart of a batch that was started so, by the accepted recipes
+-- the chart of a batch with this start, by the accepted recipes
 abbrev pub chart_by : History → Option Started → Option PlainChart
 chart_by recipes started = option_and_then (λ started. chart_named started.recipe recipes) started
 

@@ -17,13 +17,13 @@ use Rattle.pol_history.specs.Batches.{Started, start_of, chart_by, freezing_by, 
 
 -- ---- what a batch sees of its modules
 
--- what is seen of a service that has this view, where the module is docked so
+-- what is seen of a service with this view, by whether its module is docked
 abbrev pub sight_in : Docking → Option ServiceView → Sight
 sight_in (away ticket) view = sight.Away
 sight_in absent view = sight.Unreported
 sight_in (docked count) view = sight_of_view view
 
--- what is seen of a variable that has this value, where the module is docked so
+-- what is seen of a variable with this value, by whether its module is docked
 abbrev pub reading_in : Docking → Option Value → ReadingSight
 reading_in (away ticket) value = reading_sight.Away
 reading_in absent value = reading_sight.Unreported
@@ -34,7 +34,7 @@ abbrev pub service_sight : (List ℕ → History) → List ℕ → Option (List 
 service_sight pasts service None = sight.Unreported
 service_sight pasts service (Some tag) = sight_in (docking_by (pasts tag)) (view_by service (pasts tag))
 
--- what is seen of the variable of a module, likewise
+-- what is seen of the variable of a module, by the pasts of the modules; a role without a module is never reported
 abbrev pub variable_sight : (List ℕ → History) → List ℕ → Option (List ℕ) → ReadingSight
 variable_sight pasts name None = reading_sight.Unreported
 variable_sight pasts name (Some tag) = reading_in (docking_by (pasts tag)) (value_by name (pasts tag))

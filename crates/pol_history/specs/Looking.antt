@@ -28,15 +28,15 @@ is_recipe (of_module tag) = false
 is_recipe (of_batch batch) = false
 is_recipe (of_recipe name) = true
 
--- an accepted event of the module
+-- the entry is an accepted event of the module
 abbrev pub is_accepted_of : List ℕ → PlainEntry → Bool
 is_accepted_of tag entry = is_module tag (subject entry.event) && is_accepted entry.answer
 
--- an accepted event of the batch
+-- the entry is an accepted event of the batch
 abbrev pub is_accepted_of_batch : List ℕ → PlainEntry → Bool
 is_accepted_of_batch batch entry = is_batch batch (subject entry.event) && is_accepted entry.answer
 
--- an accepted recipe
+-- the entry is an accepted recipe
 abbrev pub is_accepted_recipe : PlainEntry → Bool
 is_accepted_recipe entry = is_recipe (subject entry.event) && is_accepted entry.answer
 
@@ -52,7 +52,7 @@ past_of_batch batch history = filter (is_accepted_of_batch batch) history
 abbrev pub recipes : History → History
 recipes history = filter is_accepted_recipe history
 
--- what the newest entry says that says something
+-- what is said by the newest entry that says anything
 abbrev pub last_of : {A : Type 0} → (PlainEntry → Option A) → History → Option A
 last_of says [] = None
 last_of says (entry ∷ older) = option_or (says entry) (last_of says older)

@@ -5,7 +5,7 @@ use Rattle.pol_history.specs.Looking.{History}
 use Rattle.pol_history.specs.Modules.{reported_states}
 use Rattle.pol_history.specs.Runs.{IsLegal}
 
--- in every legal history the reports of a service after its module's last docking are a path
+-- In every legal history the states that a service reported after its module's last docking are a path.
 abbrev pub ReportsArePaths : Type 0
 ReportsArePaths = (history : History) → IsLegal history → (tag service : List ℕ)
     → IsPath (reported_states history tag service)

@@ -6,7 +6,7 @@ use Rattle.pol_history.specs.Modules.{present_tags}
 use Rattle.pol_history.specs.Batches.{holder_of, watchers_of, batches}
 
 -- after a refused event each module, each batch and the recipes have the past that they had, and with it everything
--- that is found there; and so are the holders, the watchers, the tags that are there and the batches
+-- that is found there; the holders, the watchers, the tags that are docked or away and the batches are as they were
 pub record ChangesNothing (entry : PlainEntry) (history : History) : Type 0 where
   pub modules : (tag : List ℕ) → past tag (entry ∷ history) ≡ past tag history
   pub batch_pasts : (batch : List ℕ) → past_of_batch batch (entry ∷ history) ≡ past_of_batch batch history
@@ -16,7 +16,7 @@ pub record ChangesNothing (entry : PlainEntry) (history : History) : Type 0 wher
   pub present : present_tags (entry ∷ history) ≡ present_tags history
   pub batches : batches (entry ∷ history) ≡ batches history
 
--- A refused event changes nothing that is looked back at.
+-- No refused event changes anything that is found by looking back.
 abbrev pub RefusedChangesNothing : Type 0
 RefusedChangesNothing = (entry : PlainEntry) (history : History) → is_accepted entry.answer ≡ false
     → ChangesNothing entry history

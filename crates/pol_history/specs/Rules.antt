@@ -32,13 +32,13 @@ use Rattle.pol_history.specs.Batches.{log_by, holder_of, is_start, watchers_of}
 
 -- ---- whether a tag is docked
 
--- the tag is there already
+-- the tag is docked or away already
 abbrev pub tag_taken : Docking → Option Rule
 tag_taken absent = None
 tag_taken (docked count) = Some TagTaken
 tag_taken (away ticket) = Some TagTaken
 
--- the tag isn't there
+-- the tag is neither docked nor away
 abbrev pub no_module : List ℕ → Docking → Option Rule
 no_module tag absent = Some (NoModule tag)
 no_module tag (docked count) = None
@@ -171,7 +171,7 @@ busy history binds roles = first_of (map (λ role. busy_role history (bound_tag 
 
 -- ---- the batches that hold and watch a module
 
--- the module is watched; the first watcher
+-- a batch watches the module; the rule names the first one that does
 abbrev pub watched : History → List ℕ → Option Rule
 watched history tag = first_of (map (λ batch. Some (Watched batch)) (watchers_of history tag))
 
@@ -205,7 +205,7 @@ uncovered_by recipes tag description batch past =
     (chart_by recipes (Some started)))
     (start_by past)
 
--- the same of a batch of the history
+-- what of the chart the new module doesn't cover, for the role that the tag plays in this batch of the history
 abbrev pub uncovered_in : History → List ℕ → PlainDescription → List ℕ → Option Rule
 uncovered_in history tag description batch =
     uncovered_by (recipes history) tag description batch (past_of_batch batch history)

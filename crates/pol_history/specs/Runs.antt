@@ -13,7 +13,7 @@ use Rattle.pol_history.specs.Answers.{answer_of}
 abbrev pub entry_of : History → PlainEvent → PlainEntry
 entry_of history event = record { event = event; answer = answer_of history event }
 
--- an answer stands in the history, unless the history is full
+-- the answer goes into the history: it isn't the refusal of a full history
 abbrev pub is_recorded : Answer → Bool
 is_recorded (Refused HistoryFull) = false
 is_recorded _ = true
@@ -51,15 +51,15 @@ IsLegal [] = Unit {0}
 IsLegal (entry ∷ history) = (entry.answer ≡ answer_of history entry.event) × (is_recorded entry.answer ≡ true)
     × IsLegal history
 
--- each event is as a line says it: a recipe's chart is valid, a start's binds stand in order
+-- each event is as a line says it: a recipe's chart is valid, a start's binds are in order
 abbrev pub AreOrderly : List PlainEvent → Type 0
 AreOrderly events = AllByRecursion (λ event. is_orderly event ≡ true) events
 
--- the events of a history are so
+-- each event of the history is as a line says it
 abbrev pub IsOrderly : History → Type 0
 IsOrderly history = AllByRecursion (λ entry. is_orderly entry.event ≡ true) history
 
--- whatever events come, the history that they leave is legal, and it has no event that didn't come
+-- Whatever events come, the history that they leave is legal; and where they are orderly, its events are orderly.
 abbrev pub RunsAreLegal : Type 0
 RunsAreLegal =
     (events : List PlainEvent) → IsLegal (history_after [] events)

@@ -1,8 +1,9 @@
-//! What a plant's journal means: looking back in a history, the answer that an event gets, runs, and the output of an
-//! input. Definitions, and the first laws about them: each law is the contract of a function with an empty body.
+//! The meaning of a plant's journal: what looking back in a history finds, which answer each event gets, and which
+//! histories are legal. These are definitions, with the first laws about them: each law is the contract of a function
+//! with an empty body.
 //!
-//! It knows nothing of tables or of how an answer is found: `pol_audit` and `pol_core` are held against it. What
-//! follows from the definitions stands above it, in `pol_safety` and `pol_removal`.
+//! This crate knows nothing of tables or of how an answer is found: `pol_audit` and `pol_core` are held against it.
+//! What follows from the definitions is in `pol_safety` and `pol_removal`, which build on it.
 //!
 //! Laws alone: no test tries them.
 #![tactic(auto)]

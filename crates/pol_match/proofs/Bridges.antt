@@ -185,7 +185,7 @@ pub record IsPlaceOf {Each : Type 0} (tag : Each → List ℕ) (fit : List ℕ �
   pub tagged : tag (get_or all place blank) ≡ name
   pub fitting : fit role (get_or all place blank) ≡ true
 
--- at the place of a bound tag stands a candidate that has the tag and fits the role
+-- at the place of a bound tag is a candidate that has the tag and fits the role
 pub place_of_bound : {Each : Type 0} (tag : Each → List ℕ) (fit : List ℕ → Each → Bool) (all : List Each)
     (roles bound : List (List ℕ)) (blank : Each) (row : ℕ) → AreBound tag fit all roles bound → row < length roles
     → IsPlaceOf tag fit all (get_or roles row []) (get_or bound row [])

@@ -1,4 +1,4 @@
--- The first crowd of rows tells which roles are at issue, and with them the shortage that is told.
+-- The first crowd of rows says which roles are at issue, and with them which shortage is answered.
 use Rattle.std.proofs.Common.{◌≡◌, ◌≢◌, ℕ, suc, ◌+◌, ◌^◌, ◌<◌, ◌≤◌, ◌&&◌, ◌||◌, Bool, true, false, not, Option}
 use Rattle.std.proofs.Common.{Some, None, List, [], ◌∷◌, map, filter, length, get_or, take, refl, arith, sym, ◌∙◌, ap}
 use Rattle.std.proofs.Common.{subst, ⊎_elim, zero-add}
@@ -35,14 +35,14 @@ use Rattle.pol_match.proofs.Shortages.{among_kept, filter_same, reached-is, thos
 use Rattle.pol_match.proofs.Tables.{in_set_of, passes_at}
 use Rattle.pol_match.proofs.Ways.{differs_by, differs_so}
 
--- where a name that is among the first names stands
+-- where a name that is among the first names is
 record IsAmongFirst (names : List (List ℕ)) (count : ℕ) (name : List ℕ) : Type 0 where
   at : ℕ
   below : at < count
   low : at < length names
   is : get_or names at [] ≡ name
 
--- so it stands there
+-- a name that is among the first names is at its place
 among_first : (names : List (List ℕ)) (count : ℕ) (name : List ℕ) → count ≤ length names
     → is_among (take count names) name ≡ true → IsAmongFirst names count name
 among_first names count name few among =
@@ -56,7 +56,7 @@ among_first names count name few among =
       is = sym (get_or-take count names at [] below) ∙ spot.1;
     }
 
--- and what stands there is among them
+-- the name at each place below the count is among the first names
 first_among : (names : List (List ℕ)) (count at : ℕ) → count ≤ length names → at < count
     → is_among (take count names) (get_or names at []) ≡ true
 first_among names count at few below =
@@ -225,7 +225,7 @@ module _ (chart : PlainChart) (candidates : List PlainCandidate) (sorted : AreIn
   abbrev others_first : ℕ → List (List ℕ)
   others_first row = all_but (get_or (role_names chart) row []) (take (crowd.row + 1) (role_names chart))
 
-  -- one of them stands at another place of the first
+  -- one of them is at another place of the first
   other_first : (row : ℕ) (role : List ℕ) → is_among (others_first row) role ≡ true
       → (k : ℕ) × (k < crowd.row + 1) × (k ≢ row) × (get_or (role_names chart) k [] ≡ role)
   other_first row role among =
@@ -239,7 +239,7 @@ module _ (chart : PlainChart) (candidates : List PlainCandidate) (sorted : AreIn
         is.is,
       )
 
-  -- and what stands at another place is one
+  -- the name at another place is one of them
   first_other : (row k : ℕ) → row < length (role_names chart) → k < crowd.row + 1 → k ≢ row
       → is_among (others_first row) (get_or (role_names chart) k []) ≡ true
   first_other row k low below apart =
@@ -477,7 +477,7 @@ module _ (chart : PlainChart) (candidates : List PlainCandidate) (sorted : AreIn
       ∙ had_is (take (crowd.row + 1) (role_names chart)) place (omega arith)
       (λ row less. first_among (role_names chart) (crowd.row + 1) row (omega (arith, row_low)) (omega arith)))
 
-  -- the tags that are told are those at the places that rows within the crowd's reach
+  -- the tags that are answered are those at the places that rows within the crowd reach
   pub tags_told : short_tags chart candidates
       ≡ those_at (is_reached (rows_for chart candidates) set) 0 (tags_in candidates)
   tags_told = sym (those_at-is (is_reached (rows_for chart candidates) set) (is_wanted chart candidates) 0 candidates
@@ -529,7 +529,7 @@ module _ (chart : PlainChart) (candidates : List PlainCandidate) (sorted : AreIn
           sym (wanted_is place is.0)
           ∙ (sym (ap (λ answer. not answer || is_wanted chart candidates (get_or candidates place nobody)) is.1) ∙ one)
 
-  -- the roles that are told are those whose rows lie within the crowd's places
+  -- the roles that are answered are those whose rows lie within the crowd's places
   pub roles_told : short_roles chart candidates
       ≡ those_with (has_all set) (rows_for chart candidates) (role_names chart)
   roles_told =

@@ -11,7 +11,7 @@ use Rattle.pol_match.specs.Assignments.{IsAssignment, IsLeastAssignment, AgreeBe
 use Rattle.pol_match.proofs.PlaceSets.{nothing_in}
 use Rattle.pol_match.proofs.Chains.{HasMore, more_here, more_within, more_only}
 
--- the rows so far hold the places that are told, the least ones
+-- the rows so far hold the places that are listed, the least ones
 pub record AreLowered (rows : List ℕ) (holders : List (Option ℕ)) (settled row : ℕ) (places : List ℕ) : Type 0 where
   pub seated : AreSeated rows holders (length rows)
   pub is_settled : IsSettled holders settled row
@@ -20,7 +20,7 @@ pub record AreLowered (rows : List ℕ) (holders : List (Option ℕ)) (settled r
   pub least : (others : List ℕ) (each : ℕ) → IsAssignment rows others → each < row → AgreeBelow others places each
       → slice_index places each ≤ slice_index others each
 
--- at first none is told
+-- at first no place is listed
 pub none_lowered : (rows : List ℕ) (holders : List (Option ℕ)) (places : List ℕ) → AreSeated rows holders (length rows)
     → length places ≡ 0 → AreLowered rows holders 0 0 places
 none_lowered rows holders places all none =
@@ -35,12 +35,12 @@ none_lowered rows holders places all none =
       least = λ others each assignment low agree. absurd (omega arith);
     }
 
--- what was told stays when one more is told
+-- the listed places stay when one more is listed
 told_before : (places : List ℕ) (place each : ℕ) → each < length places
     → slice_index (places ++ place ∷ []) each ≡ slice_index places each
 told_before places place each low = get_or_append_left places (place ∷ []) 0 each low
 
--- what is told last stands last
+-- the place that is listed last is the last one
 told_last : (places : List ℕ) (place : ℕ) → slice_index (places ++ place ∷ []) (length places) ≡ place
 told_last places place = get_or-append_seam places place [] 0
 
@@ -118,7 +118,7 @@ one_more_lowered rows before after settled more row place places inside are step
         (λ fails. fails)
         (cases_Bool (is_in settled (slice_index others each)))
 
--- where all rows are told, their places are the least assignment
+-- where the places of all rows are listed, they are the least assignment
 pub all_lowered : (rows : List ℕ) (holders : List (Option ℕ)) (settled : ℕ) (places : List ℕ)
     → AreLowered rows holders settled (length rows) places → IsLeastAssignment rows places
 all_lowered rows holders settled places are =

@@ -1,4 +1,4 @@
--- Places of their own for roles, told by the names of the roles: they are there exactly where there is a way.
+-- Places of their own for roles, by the names of the roles: they are there exactly where there is a way.
 use Rattle.std.proofs.Common.{◌≡◌, ◌≢◌, ℕ, suc, ◌<◌, Bool, true, false, not, Option, Some, None, List, []}
 use Rattle.std.proofs.Common.{◌∷◌, map, length, get_or, take, refl, arith, sym, ◌∙◌, ap, ⊎_elim}
 use Rattle.std.specs.Prelude.{is_some, slice_index}
@@ -44,7 +44,7 @@ at_among names k low =
 pub spot_of : List (List ℕ) → List ℕ → ℕ
 spot_of names name = position_or_len (λ each. same_name each name) names
 
--- a name that is among the names stands at its place
+-- a name that is among the names is at its place
 pub at_spot : (names : List (List ℕ)) (name : List ℕ) → is_among names name ≡ true
     → (spot_of names name < length names) × (get_or names (spot_of names name) [] ≡ name)
 unfolding spot_of

@@ -232,7 +232,7 @@ shortage chart candidates set crowded few =
     tags_are = those_at-is (is_reached (rows_for chart candidates) set) is_wanted 0 candidates
         (λ i low. ap (is_reached (rows_for chart candidates) set) (zero-add i) ∙ reached_at i low)
 
--- the same, of what was told
+-- the roles and the tags that were answered for a crowd are a shortage
 pub shortage_told : (chart : PlainChart) (candidates : List PlainCandidate) (rows : List ℕ) (set : ℕ)
     (roles tags : List (List ℕ)) → rows ≡ rows_for chart candidates
     → roles ≡ those_with (has_all set) rows (role_names chart)

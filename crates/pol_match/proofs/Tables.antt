@@ -9,12 +9,12 @@ use Rattle.std.proofs.lemmas.Nat.Bits.{bit_at_lowest, bit_at-suc, same_from_bits
 use Rattle.pol_match.specs.Places.{is_in, set_of}
 use Rattle.pol_match.proofs.PlaceSets.{nothing_in, in_one, in_zero, one_in, zero_in}
 
--- half of a number whose lowest bit is told is the rest
+-- half of a number whose lowest bit is known is the rest
 half : (each : Bool) (rest : ℕ) → ((if each then 1 else 0) + 2 * rest) / 2 ≡ rest
 half true rest = omega arith
 half false rest = omega arith
 
--- its lowest bit tells the place 0
+-- the lowest bit of a set says whether the place 0 is in it
 lowest : (each : Bool) (rest : ℕ) → is_in ((if each then 1 else 0) + 2 * rest) 0 ≡ each
 lowest true rest = one_in (1 + 2 * rest) 0 (bit_at_lowest (1 + 2 * rest) ∙ omega arith)
 lowest false rest = zero_in (0 + 2 * rest) 0 (bit_at_lowest (0 + 2 * rest) ∙ omega arith)

@@ -1,4 +1,4 @@
--- What is told of a chart is right, and what is found is told.
+-- What is answered for a chart by definition is right, and what is found is that answer.
 use Rattle.std.proofs.Common.{◌≡◌, ℕ, zero, suc, ◌+◌, ◌*◌, ◌^◌, ◌<◌, ◌≤◌, ◌&&◌, Bool, true, false, if◌then◌else◌, List}
 use Rattle.std.proofs.Common.{[], ◌∷◌, Option, Some, None, map, length, refl, arith, sym, ◌∙◌, ap, subst, ⊎_elim}
 use Rattle.std.specs.Prelude.{slice_index, nat_le}
@@ -64,7 +64,7 @@ roles_once chart formed =
     (and_parts (are_distinct (role_names chart))
     (list_all (λ role. nat_le (length role.wants) LONGEST_WANTED) chart.roles) parts.1).0
 
--- what was found by the first crowd is told
+-- what was found by the first crowd is answered
 pub short_told : (chart : PlainChart) (candidates : List PlainCandidate) (rows : List ℕ) (set : ℕ)
     (roles tags : List (List ℕ)) → is_chart_form chart ≡ true → length candidates ≤ 64 → AreInOrder candidates
     → rows ≡ rows_for chart candidates → HaveNone rows → IsFirstCrowd rows set
@@ -81,7 +81,7 @@ short_told chart candidates rows set roles tags formed few sorted same none crow
           ∙ sym (tags_told chart candidates sorted few once set first));
     }
 
--- the shortage that is told is one
+-- the shortage that is answered is one
 shortage_told_is : (chart : PlainChart) (candidates : List PlainCandidate) → is_chart_form chart ≡ true
     → length candidates ≤ 64 → AreInOrder candidates → AreTooMany (rows_for chart candidates)
     → IsShortage chart candidates (short_roles chart candidates) (short_tags chart candidates)
@@ -97,7 +97,7 @@ shortage_told_is chart candidates formed few sorted many =
     (shortage chart candidates many.set many.crowded
     (those_few rows many.set (tags_in candidates) many.small short)))
 
--- what is told of each chart is right
+-- what is answered for each chart is right
 pub each_rightly : EachIsToldRightly
 each_rightly chart candidates formed few sorted = by_told (binding_of chart candidates) refl
   where

@@ -402,7 +402,7 @@ some_first chart (role ∷ roles) candidates binds some =
     least_by_first chart role roles candidates binds rest.0 found
     (some_first chart roles (others_than mine.tag candidates) rest.0 rest.1) rest.2
 
--- ---- the binding that is told
+-- ---- the binding that is answered
 
 -- lists of names that compare alike are one
 one_list : (names others : List (List ℕ)) → slice_cmp name_cmp names others ≡ Equal → names ≡ others
@@ -432,7 +432,7 @@ same_binds (bind ∷ binds) (other ∷ others) roles tags =
     ∙ (ap (λ name. record { role = other.role; tag = name } ∷ binds) tag
     ∙ ap (λ later. other ∷ later) rest)
 
--- the binding that is told is a least one
+-- the binding that is answered is a least one
 pub told_least : (chart : PlainChart) (candidates : List PlainCandidate) (binds : List Bind) → AreInOrder candidates
     → binding_of chart candidates ≡ Some binds → IsLeastBinding chart candidates binds
 told_least chart candidates binds sorted told =
@@ -443,7 +443,7 @@ told_least chart candidates binds sorted told =
           (bound_by_binding chart candidates others binding) greater;
     }
 
--- where none is told there is none
+-- where no binding is answered there is none
 pub told_none : (chart : PlainChart) (candidates : List PlainCandidate) → binding_of chart candidates ≡ None
     → HasNoBinding chart candidates
 told_none chart candidates told binds binding =
@@ -456,7 +456,7 @@ one_least chart candidates binds others one other =
     same_binds binds others (one.binding.roles ∙ sym other.binding.roles)
     (none_greater (tags_of binds) (tags_of others) (one.least others other.binding) (other.least binds one.binding))
 
--- the least binding is told
+-- the least binding is answered
 pub least_told : (chart : PlainChart) (candidates : List PlainCandidate) (binds : List Bind) → AreInOrder candidates
     → IsLeastBinding chart candidates binds → binding_of chart candidates ≡ Some binds
 least_told chart candidates binds sorted least = by_told (binding_of chart candidates) refl
@@ -466,7 +466,7 @@ least_told chart candidates binds sorted least = by_told (binding_of chart candi
     by_told (Some others) is = is
         ∙ ap Some (one_least chart candidates others binds (told_least chart candidates others sorted is) least)
 
--- where there is none, none is told
+-- where there is no binding, none is answered
 pub none_told : (chart : PlainChart) (candidates : List PlainCandidate) → AreInOrder candidates
     → HasNoBinding chart candidates → binding_of chart candidates ≡ None
 none_told chart candidates sorted none = by_told (binding_of chart candidates) refl

@@ -12,7 +12,7 @@ pub record IsAssignment (rows places : List ℕ) : Type 0 where
   pub once : (one other : ℕ) → one < length rows → other < length rows
       → slice_index places one ≡ slice_index places other → one ≡ other
 
--- the places have the same beginning, of this length
+-- the two lists of places agree at each row below this one
 abbrev pub AgreeBelow : List ℕ → List ℕ → ℕ → Type 0
 AgreeBelow others places row = (each : ℕ) → each < row → slice_index others each ≡ slice_index places each
 
@@ -51,7 +51,7 @@ abbrev pub other_than : ℕ → Option ℕ → Option ℕ
 other_than row None = None
 other_than row (Some holder) = if holder == row then None else Some holder
 
--- the row holds no place, and each other one what it held
+-- the row holds no place, and each other row holds what it held
 abbrev pub IsUnseated : List (Option ℕ) → List (Option ℕ) → ℕ → Type 0
 IsUnseated before after row = (place : ℕ) → holder_at after place ≡ other_than row (holder_at before place)
 

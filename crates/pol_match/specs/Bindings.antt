@@ -25,7 +25,7 @@ abbrev pub is_bound_well : PlainChart → List PlainCandidate → Bind → Bool
 is_bound_well chart candidates bind =
     list_any (λ candidate. same_name candidate.tag bind.tag && fits_role chart bind.role candidate) candidates
 
--- each role in order has a candidate that fits, and no candidate is there twice
+-- each role in order has a candidate that fits, and no candidate is bound twice
 pub record IsBinding (chart : PlainChart) (candidates : List PlainCandidate) (binds : List Bind) : Type 0 where
   pub roles : map (λ bind. bind.role) binds ≡ role_names chart
   pub fit : All (λ bind. IsTrue (is_bound_well chart candidates bind)) binds

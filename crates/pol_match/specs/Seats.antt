@@ -11,7 +11,7 @@ fits rows row place = is_in (slice_index rows row) place
 abbrev pub holder_at : List (Option ℕ) → ℕ → Option ℕ
 holder_at holders place = slice_index_or holders place None
 
--- each place that a row fits is there
+-- each place that a row fits is one of the places that can be held
 abbrev pub AreInside : List ℕ → List (Option ℕ) → Type 0
 AreInside rows holders = (row place : ℕ) → fits rows row place ≡ true → place < length holders
 

@@ -1,4 +1,4 @@
-//! The least places that rows can have, each its own.
+//! Assigns to each row a place of its own, the least ones that the rows can have.
 
 ghost use Rattle.std.specs.Prelude.{◌≡◌, ◌<◌, ◌≤◌, ℕ, length, true, None, IfOk, MatchResult};
 ghost use Rattle.pol_match.specs.Seats.{AreInside, fits, holder_at};
@@ -11,7 +11,7 @@ use crate::places::Places;
 use crate::seats::seat;
 use std::alloc::{AllocError, Global};
 
-// Gives each row a place; else tells the places that are too few for the rows that fit no others.
+// Gives each row a place; else answers the places that are too few for the rows that fit no others.
 fn seat_all(rows: &[Places], holders: &mut [Option<usize>]) -> Result<(), Places>
     requires inside { AreInside rows.now holders.old }
     requires few { length holders.old ≤ MOST_PLACES }
@@ -90,7 +90,7 @@ pub(crate) enum Outcome {
 ///
 /// # Errors
 ///
-/// AllocError where memory is wanting for a number for each place and each row.
+/// AllocError where there is no memory for a number for each place and each row.
 pub(crate) fn assign(alloc: Global, rows: &[Places], count: usize) -> Result<Outcome, AllocError>
     requires inside { (row place : ℕ) → fits rows.now row place ≡ true → place < count }
     requires few { count ≤ MOST_PLACES }

@@ -1,4 +1,4 @@
-//! Modules that could be bound, and what is found of a chart's roles.
+//! Modules that could be bound, and how a chart's roles can be bound to them.
 
 use mtp_codes::Name;
 use mtp_desc::Description;
@@ -21,7 +21,7 @@ pub struct Candidate {
 pub enum Found {
     /// The least binding: a candidate for each role, in the order of the roles.
     Binding(Vec<Bind>),
-    /// There is none: these roles fit these candidates alone, which are fewer.
+    /// There is no binding: these roles fit these candidates alone, which are fewer.
     Short {
         /// Roles, in the order of the recipe.
         roles: Vec<Name>,

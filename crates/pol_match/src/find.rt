@@ -1,4 +1,4 @@
-//! The finder of bindings.
+//! Finds how the roles of a chart can be bound to candidates.
 
 ghost use Rattle.std.specs.Prelude.{◌≡◌, ◌<◌, ◌≤◌, ℕ, length, map, IfOk, slice_index_or, []};
 ghost use Rattle.std.specs.List.{All};
@@ -213,7 +213,7 @@ fn shortage_within(
 ///
 /// # Errors
 ///
-/// AllocError where memory is wanting for a few numbers for each role, step, test and candidate.
+/// AllocError where there is no memory for a few numbers for each role, step, test and candidate.
 pub fn find_binding(
     alloc: Global,
     chart: &Chart,

@@ -1,4 +1,4 @@
-//! Which modules could play the roles of a chart: the least binding, or a shortage that shows that there is none.
+//! Finds modules that could play the roles of a chart: the least binding, or a shortage that shows that there is none.
 //!
 //! It knows nothing of a plant: candidates are handed in, with those of their services that are idle. `find_binding`
 //! answers exactly by the definitions of `specs/Bindings.antt`, which speak of roles and tags alone. Beneath it the

@@ -26,9 +26,9 @@ fn vacate(rows: &[Places], holders: &mut [Option<usize>], seen: &mut Places, pla
     }
 }
 
-/// Gives the row the first place that it can have, and tells it: a place that wasn't seen, whose holder, if it has one,
-/// moves to another in the same way. Who holds a place that was seen keeps it. None, and no one moves, where the row
-/// can't have a place; what was seen by then has no free place.
+/// Gives the row the first place that it can have, and answers it: a place that wasn't seen, whose holder, if it has
+/// one, moves to another in the same way. A row that holds a place that was seen keeps it. None, and no row moves,
+/// where the row can't have a place; what was seen by then has no free place.
 #[cycle(seat)]
 pub(crate) fn seat(
     rows: &[Places],

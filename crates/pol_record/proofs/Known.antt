@@ -57,7 +57,7 @@ one_more entries i entry inside same =
     ∙ ap reverse (map-append plain_entry (take i entries) (entry ∷ []))
     ∙ reverse-append (map plain_entry (take i entries)) (plain_entry entry ∷ [])
 
--- where it is, it stands in the batch's past
+-- where it is, it is in the batch's past
 pub known_more : (history : History) (entry : PlainEntry) (batch : List ℕ) (known : PlainRecord) →
     known ≡ record_by (past_of_batch batch history) →
     is_its entry batch ≡ true → with_entry entry known ≡ record_by (past_of_batch batch (entry ∷ history))

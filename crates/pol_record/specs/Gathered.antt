@@ -28,7 +28,7 @@ pub record PlainRecord : Type 0 where
 abbrev pub record_by : History → PlainRecord
 record_by past = record { start = start_by past; log = log_by past; outcome = outcome_by past }
 
--- the same, with one more entry of the batch
+-- what is known of a batch, with one more entry of the batch
 abbrev pub with_entry : PlainEntry → PlainRecord → PlainRecord
 with_entry entry known = record {
   start = option_or (starting entry.event) known.start;
@@ -36,7 +36,7 @@ with_entry entry known = record {
   outcome = option_or (closing entry.answer) known.outcome;
 }
 
--- the line of a batch of which so much is known
+-- the line of a batch of which this is known
 abbrev pub record_text : List ℕ → PlainRecord → List ℕ
 record_text batch known = started_text batch known.start known.log known.outcome
 

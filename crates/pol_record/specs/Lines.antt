@@ -22,7 +22,7 @@ abbrev pub meaning_from : Result PlainEvent LineFault → LineMeaning
 meaning_from (Ok event) = an_event event
 meaning_from (Err fault) = a_fault fault
 
--- what a line says that isn't too long
+-- what a line that isn't too long says
 abbrev pub short_meaning : List ℕ → LineMeaning
 short_meaning line = if list_all is_blank_byte line then nothing else meaning_from (event_of line)
 
@@ -94,8 +94,7 @@ abbrev pub history_of : List ℕ → History
 history_of bytes = history_after [] (events_in (input_lines_of bytes))
 
 -- what ends the output of a job that leaves this history: the line of each batch in the order of the starts, and the
--- end
--- line
+-- end line
 abbrev pub closing_text : History → List ℕ
 closing_text history = batches_text history ++ end_text
 

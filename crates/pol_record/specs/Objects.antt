@@ -11,16 +11,16 @@ use Rattle.mtp_codes.specs.declared.value.Reading.{Reading}
 use Rattle.mtp_codes.specs.declared.value.Reading.TheVariants.{Whole, Bit}
 use Rattle.event_json.specs.Fields.{PlainField, PlainFieldValue, text, number, readings, in_order}
 
--- a reading
+-- a reading as JSON
 abbrev pub reading_data : Reading → Data
 reading_data (Whole value) = number_data (of_integer value)
 reading_data (Bit value) = boolean value
 
--- the readings by which a node decided
+-- the readings by which a node decided, as JSON
 abbrev pub readings_data : List Reading → Data
 readings_data values = array (items_of (map reading_data values))
 
--- the value of a field
+-- the value of a field as JSON
 abbrev pub value_data : PlainFieldValue → Data
 value_data (text value) = string value
 value_data (number value) = number_data (unsigned value)

@@ -1,4 +1,4 @@
--- What every answer keeps that a program holds: its names are names, and its numbers have their widths.
+-- What holds of every answer in a program: its names are names, and its numbers have their widths.
 use Rattle.std.specs.Prelude.{Bool, true, ◌&&◌}
 use Rattle.mtp_codes.specs.Numbers.{greatest_u32, is_between}
 use Rattle.chart_core.specs.declared.entry.LogEntry.{LogEntry}
@@ -14,7 +14,7 @@ abbrev pub is_start_in_range : LogEntry → Bool
 is_start_in_range (Start step tag service procedure) = is_between 0 65535 procedure
 is_start_in_range _ = true
 
--- an answer's fields are so
+-- the names in an answer are names, and its numbers have their widths
 abbrev pub is_in_range : Answer → Bool
 is_in_range Done = true
 is_in_range (Ticket ticket) = is_between 0 greatest_u32 ticket

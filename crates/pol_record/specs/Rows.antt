@@ -11,12 +11,12 @@ use Rattle.chart_core.specs.declared.why.Why.TheVariants as why
 use Rattle.event_json.specs.Fields.{PlainField, fields_of, number_field, readings_field, text_field}
 use Rattle.pol_record.specs.declared.rows.Row.{Row}
 
--- a name and fields
+-- the name and the fields of a log entry or an obstacle
 pub record PlainRow : Type 0 where
   pub name : List ℕ
   pub fields : List PlainField
 
--- what is told under this name, with these fields
+-- the row with this name and these fields
 abbrev pub row : List ℕ → List PlainField → PlainRow
 row name fields = record { name = name; fields = fields }
 
@@ -24,7 +24,7 @@ row name fields = record { name = name; fields = fields }
 abbrev pub named_fields : List ℕ → PlainRow → List PlainField
 named_fields key told = told.fields ++ text_field key told.name ∷ []
 
--- a command to the service of a step
+-- the row of a command to the service of a step
 abbrev pub command_row : List ℕ → List ℕ → List ℕ → List ℕ → PlainRow
 command_row name step tag service =
     row name
@@ -33,7 +33,7 @@ command_row name step tag service =
     ∷ text_field (codes "service") service
     ∷ [])
 
--- each entry of a batch's log
+-- the row of each entry of a batch's log
 abbrev pub entry_row : LogEntry → PlainRow
 entry_row (Start step tag service procedure) =
     row (codes "start")
@@ -77,7 +77,7 @@ forbid_name forbid.SelfCompletes = codes "SelfCompletes"
 forbid_name forbid.StateForbids = codes "StateForbids"
 forbid_name forbid.NotEnabled = codes "NotEnabled"
 
--- each obstacle that a batch waits for
+-- the row of each obstacle that a batch waits for
 abbrev pub obstacle_row : Why → PlainRow
 obstacle_row why.Frozen = row (codes "Frozen") []
 obstacle_row (why.Away tag) = row (codes "Away") (text_field (codes "tag") tag ∷ [])

@@ -83,7 +83,7 @@ line_text value = compact_text value ++ 10 ∷ []
 abbrev pub answer_text : Answer → List ℕ
 answer_text answer = line_text (answer_data answer)
 
--- what ends every output
+-- the object that ends every output
 abbrev pub end_data : Data
 end_data = under_key (codes "end") (boolean true)
 

@@ -13,7 +13,7 @@ use Rattle.pol_record.specs.declared.verdicts.Verdict.TheVariants.{Good, WrongAn
 abbrev pub good_fields : ℕ → List PlainField
 good_fields entries = text_field (codes "audit") (codes "good") ∷ number_field (codes "entries") entries ∷ []
 
--- the fields of a bad one: the place, and what is wrong there
+-- the fields of a bad verdict: the place, and what is wrong there
 abbrev pub bad_fields : ℕ → List ℕ → List PlainField
 bad_fields place why =
     text_field (codes "audit") (codes "bad") ∷ number_field (codes "place") place ∷ text_field (codes "why") why ∷ []

@@ -12,7 +12,7 @@ use json::Writer;
 use mtp_json::{FaultKind, JsonFault};
 use std::alloc::{AllocError, Global};
 
-/// The name of a kind of fault of a text, as lines tell it.
+/// The name of a kind of fault of a text, as lines give it.
 pub fn kind_name(kind: FaultKind) -> &'static str
     ensures { result.now ≡ kind_name kind }
 {

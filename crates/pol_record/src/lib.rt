@@ -1,5 +1,5 @@
-//! The texts of output lines: the line of an answer, of a fault, of an entry of a history and of a batch, and the line
-//! that ends every output.
+//! Writes the output lines: the line of an answer, of a fault, of an entry of a history, of a batch and of a verdict,
+//! and the line that ends every output.
 //!
 //! Each line is one JSON object in `serde_json`'s compact text (RFC 8259) and a line feed, byte for byte the text that
 //! `specs/Texts.antt` defines; `specs/Lines.antt` says which lines an input brings. A rule, a log entry, an obstacle

@@ -11,7 +11,7 @@ use chart_core::{LogEntry, Why};
 use event_json::Fields;
 use mtp_codes::{Forbid, Name};
 
-/// What is told of a log entry or an obstacle.
+/// The name and the fields of a log entry or an obstacle.
 #[derive(Drop)]
 pub struct Row<'a> {
     /// Its name.

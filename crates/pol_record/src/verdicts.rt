@@ -23,7 +23,7 @@ pub enum Verdict {
     Good { entries: u32 },
     /// The answer of the entry at this place, counted from 0, isn't the one that the entries before it give.
     WrongAnswer { place: u32, says: Answer },
-    /// It has more entries than an audit takes; the first that is too many stands at this place.
+    /// It has more entries than an audit takes; the first that is too many is at this place.
     TooMany { place: u32 },
     /// The line with this number, counted from 0 over the lines that aren't blank, isn't the next of those that follow
     /// the entries; or it is missing.

@@ -105,24 +105,25 @@ without tags bytes = flat_map piece_of (rows_without tags bytes)
 abbrev pub batches_without : List (List ℕ) → List ℕ → List (List ℕ)
 batches_without tags bytes = filter (λ batch. not (is_among (bound_in tags bytes) batch)) (batches (history_of bytes))
 
--- the output without the answers to these lines and without the lines of the batches that are bound to the modules
+-- the output without the answers to the lines that concern the modules, and without the lines of the batches that are
+-- bound to the modules
 abbrev pub output_without : List (List ℕ) → List ℕ → List ℕ
 output_without tags bytes =
     answered_texts (rows_without tags bytes)
     ++ (batch_lines (history_of bytes) (batches_without tags bytes) ++ end_text)
 
--- where the events are orderly, the run of those that stay is the run of all of them without the concerned entries
+-- Where the events are orderly, the run of those that stay is the run of all of them without the concerned entries.
 abbrev pub RemovalOfEvents : Type 0
 RemovalOfEvents =
     (tags : List (List ℕ)) (events : List PlainEvent) → AreOrderly events →
     run_of (map (λ entry. entry.event) (entries_without tags events)) ≡ entries_without tags events
 
--- leaving out the events of any batches, with those refused for another's sake, leaves the other entries as they are
+-- Leaving out the events of any batches, with those refused for another's sake, leaves the other entries as they are.
 abbrev pub RemovalOfBatches : Type 0
 RemovalOfBatches =
     (gone : List (List ℕ)) (events : List PlainEvent) → AreOrderly events →
     run_of (map (λ entry. entry.event) (entries_of_others gone events)) ≡ entries_of_others gone events
 
--- taking out the lines that concern some modules takes out just their output lines
+-- Taking out the lines that concern some modules takes out just their output lines.
 abbrev pub RemovalOfLines : Type 0
 RemovalOfLines = (tags : List (List ℕ)) (bytes : List ℕ) → output_of (without tags bytes) ≡ output_without tags bytes

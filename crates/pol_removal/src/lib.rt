@@ -1,6 +1,7 @@
-//! Taking modules out of a journal: the lines of some modules, of the batches that hold or watch them, and the lines
-//! that were refused for another's sake. What it means stands in `specs/Removal.antt`, and that it takes out just their
-//! output lines is the contract of functions with an empty body. The same is said of the events of any batches.
+//! The laws of taking modules out of a journal: the lines of some modules, of the batches that hold or watch them, and
+//! the lines that were refused for another's sake. `specs/Removal.antt` defines what is taken out, and that this takes
+//! out just the output lines of these lines is the contract of functions with an empty body. Another law says the same
+//! of the events of any batches.
 //!
 //! It knows nothing of how an answer is found.
 //!

@@ -118,7 +118,7 @@ broken_is step (sight.Is view) entry is = go (is_broken_state view.control.state
     go true is = let same : Broke step.name view.control.state ≡ entry = cc in ap is_broke (sym same)
     go false is = cc
 
--- the first broken step is told by such an entry
+-- the entry of the first broken step says that it broke
 first_is : (seen : Sights) (each : List PlainStep) (entry : LogEntry) → first_broken seen each ≡ Some entry →
     is_broke entry ≡ true
 first_is seen [] entry is = cc
@@ -219,7 +219,7 @@ ComesAfter run seen entry log asked =
 abbrev pub IsNoBroke : LogEntry → Type 0
 IsNoBroke entry = (step : List ℕ) (state : State) → entry ≡ Broke step state → ⊥
 
--- an entry of another kind tells no broken step
+-- an entry of another kind says of no step that it broke
 not_broke : (entry : LogEntry) → IsNoBroke entry → is_broke entry ≡ false
 not_broke (Broke step state) other = absurd (other step state refl)
 not_broke _ other = refl

@@ -43,7 +43,7 @@ filter_twice {X} one other (x ∷ xs) = go (one x) (filter_twice one other xs)
     go true rest = ap (λ rest. cond (other x) (x ∷ rest) rest) rest
     go false rest = rest
 
--- the steps that are kept by what tells of each step what the test tells of it with its number
+-- the steps that pass a test are the same whether the test looks at a step's number or, with the same result, doesn't
 pub mapped_filter : (test : Placed → Bool) (says : PlainStep → Bool) (each : List Placed) →
     ((placed : Placed) → Contains each placed → test placed ≡ says placed.step) →
     map (λ placed. placed.step) (filter test each) ≡ filter says (map (λ placed. placed.step) each)

@@ -10,7 +10,7 @@ is_frozen Thawed = false
 is_frozen Waiting = true
 is_frozen Holding = true
 
--- it is frozen and its services are held
+-- the run is frozen and its services are held
 abbrev pub is_holding : Freeze → Bool
 is_holding Thawed = false
 is_holding Waiting = false

@@ -46,7 +46,7 @@ pub record IsSoundRun (run : PlainRun) : Type 0 where
   pub asked : List (List ℕ)
   pub asks : Asks run asked
 
--- the log after what comes next is done: an entry stands at its end
+-- the log after what comes next is done: an entry is put at its end
 abbrev pub log_after : Next → List LogEntry → List LogEntry
 log_after (Did entry) log = log ++ entry ∷ []
 log_after (Waiting obstacle) log = log

@@ -9,8 +9,8 @@ use Rattle.pol_runs.specs.declared.freeze.Freeze.{Freeze}
 use Rattle.pol_runs.specs.declared.course.Course.{Course}
 use Rattle.pol_runs.specs.declared.course.Course.TheVariants.{Running, Breaking, Stopping}
 
--- a batch with its recipe and the chart of that, its binds, of which the first ones, so many, are of modules that it
--- holds, how far each node has come, which steps were held, and whether it is frozen, stopped or closed
+-- a batch with its recipe and chart, its binds, of which the first `held` ones are of modules that it holds, how far
+-- each node has come, which steps were held, and whether it is frozen, stopped or closed
 pub record PlainRun : Type 0 where
   pub batch : List ℕ
   pub recipe : List ℕ
@@ -41,7 +41,7 @@ from_of Running = 0
 from_of (Breaking from) = from
 from_of (Stopping from) = from
 
--- the same batch with the same recipe, chart and binds
+-- the two are one batch with the same recipe, chart and binds
 pub record SameBatch (old new : PlainRun) : Type 0 where
   pub batch : new.batch ≡ old.batch
   pub recipe : new.recipe ≡ old.recipe

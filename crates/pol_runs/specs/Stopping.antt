@@ -7,13 +7,13 @@ use Rattle.chart_cursor.specs.NextEntry.{stop_step}
 use Rattle.chart_cursor.specs.Sights.{Sights, tag_of}
 use Rattle.chart_cursor.specs.declared.running.RunningStep.{RunningStep}
 
--- what comes next of a batch whose first active step this is; where there is none, it is closed
+-- what a batch that is being stopped does next, by its first active step; where there is none, the batch is closed
 abbrev pub stop_found : Sights → Bool → Option RunningStep → Next
 stop_found seen broken None = Closed (if broken then Broken else Stopped)
 stop_found seen broken (Some step) =
     stop_step step.name step.service (tag_of seen step.role) (seen.view step.role step.service)
 
--- the number behind the node of this step; the number before, where there is none
+-- the number behind the node of the step; where there is no step, the number from before
 abbrev pub behind : ℕ → Option RunningStep → ℕ
 behind from None = from
 behind from (Some step) = step.number + 1

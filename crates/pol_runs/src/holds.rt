@@ -70,7 +70,7 @@ impl Holds {
     ///
     /// # Errors
     ///
-    /// AllocError where memory is wanting for two flags for each node.
+    /// AllocError where there is no memory for two flags for each node.
     pub fn new(alloc: Global, chart: &Chart) -> Result<Holds, AllocError>
         requires { IsValid (plain_chart chart.now) }
         ensures room { IfOk result (λ holds. HaveRoom (plain_chart chart.now) holds) }

@@ -29,7 +29,7 @@ fn tag_of<S: Seen>(seen: &S, role: Name) -> Name
     }
 }
 
-/// What a batch that is stopped does next, whose first active step this is; where there is none it is closed.
+/// What a batch that is being stopped does next, by its first active step; where there is none, the batch is closed.
 pub fn stop_found<S: Seen>(step: Option<RunningStep>, seen: &S, broken: bool) -> Next
     ensures { result ≡ stop_found (S.sights seen.now) broken step }
 {
@@ -45,7 +45,7 @@ pub fn stop_found<S: Seen>(step: Option<RunningStep>, seen: &S, broken: bool) ->
     }
 }
 
-/// What a frozen batch does next whose services are held, by the number of the first node whose step may still be
+/// What a frozen batch whose services are held does next, by the number of the first node whose step may still be
 /// active and by the flags of the steps that were asked.
 pub fn hold_on<S: Seen>(cursor: &Cursor, seen: &S, from: u32, asked: &[bool]) -> Next
     ensures { (word : List LogEntry) → StandsFor (plain_chart cursor.now.chart) cursor.now.marks word
@@ -58,7 +58,7 @@ pub fn hold_on<S: Seen>(cursor: &Cursor, seen: &S, from: u32, asked: &[bool]) ->
     }
 }
 
-/// What a batch does next that is neither frozen nor stopped, by the flags of the steps that were held.
+/// What a batch that is neither frozen nor stopped does next, by the flags of the steps that were held.
 pub fn go_on<S: Seen>(cursor: &Cursor, seen: &S, held: &[bool]) -> Next
     ensures { (word : List LogEntry) → StandsFor (plain_chart cursor.now.chart) cursor.now.marks word
         → result ≡ did_or (first_broken (S.sights seen.now) (active (plain_chart cursor.now.chart) word))

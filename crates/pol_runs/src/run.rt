@@ -1,4 +1,4 @@
-//! One batch.
+//! One batch, from its start on until it is closed.
 ghost use Rattle.std.specs.Prelude.{◌≡◌, ◌&&◌, ◌||◌, ◌++◌, ◌∷◌, [], not, ℕ, List, Some, None, IfOk, OnErr, OnOk};
 ghost use Rattle.std.specs.Prelude.{drop, option_map, take, if◌then◌else◌};
 ghost use Rattle.std.specs.Option.{option_or};
@@ -104,7 +104,7 @@ impl Run {
     ///
     /// # Errors
     ///
-    /// AllocError where memory is wanting for one mark, one size and two flags for each node.
+    /// AllocError where there is no memory for one mark, one size and two flags for each node.
     pub fn new(
         alloc: Global,
         batch: Name,
@@ -130,7 +130,7 @@ impl Run {
     ///
     /// # Errors
     ///
-    /// AllocError where memory is wanting for one mark, one size and two flags for each node.
+    /// AllocError where there is no memory for one mark, one size and two flags for each node.
     pub fn of_recipe(
         alloc: Global,
         batch: Name,
@@ -318,7 +318,7 @@ impl Run {
         }
     }
 
-    /// Gives the batch up where it stands.
+    /// Gives the batch up as it is.
     pub fn abandon(&mut self)
         ensures { self.new ≡ record self.old { outcome = Some Abandoned } }
     {
@@ -356,14 +356,14 @@ impl Run {
         }
     }
 
-    /// The name of its recipe.
+    /// The name of the batch's recipe.
     pub fn recipe(&self) -> Name
         ensures { result ≡ self.now.recipe }
     {
         self.recipe
     }
 
-    /// The chart of its recipe.
+    /// The chart of the batch's recipe.
     pub fn chart(&self) -> &Arc<Chart>
         ensures chart { result.now.value ≡ self.now.chart }
         ensures valid { IsValid (plain_chart self.now.chart) }
@@ -371,7 +371,7 @@ impl Run {
         self.cursor.chart()
     }
 
-    /// Which modules play its roles.
+    /// Which modules play the batch's roles.
     pub fn binds(&self) -> &[Bind]
         ensures binds { result.now ≡ self.now.binds }
         ensures paired { ArePaired self.now.binds }
@@ -379,14 +379,14 @@ impl Run {
         &self.binds
     }
 
-    /// Which modules that it holds play its roles.
+    /// Which modules that the batch holds play its roles.
     pub fn held(&self) -> &[Bind]
         ensures { result.now ≡ take self.now.held self.now.binds }
     {
         &self.binds[..self.held.min(self.binds.len())]
     }
 
-    /// Which modules that it only watches play its roles.
+    /// Which modules that the batch only watches play its roles.
     pub fn watched(&self) -> &[Bind]
         ensures { result.now ≡ drop self.now.held self.now.binds }
     {
@@ -397,7 +397,7 @@ impl Run {
     ///
     /// # Errors
     ///
-    /// AllocError where memory is wanting for them.
+    /// AllocError where there is no memory for them.
     pub fn active_steps(&self, alloc: Global) -> Result<Vec<RunningStep>, AllocError>
         ensures { (log : List LogEntry) → Follows self.now log → IfOk result (λ steps. steps.items
             ≡ told_running (active_steps (plain_chart self.now.chart) log)) }
@@ -411,7 +411,7 @@ impl Run {
     ///
     /// # Errors
     ///
-    /// AllocError where memory is wanting for them.
+    /// AllocError where there is no memory for them.
     pub fn waiting_nodes<S: Seen>(
         &self,
         alloc: Global,

@@ -83,7 +83,7 @@ broken_one step (sight.Is view) entry is = go (is_broken_state view.control.stat
     go true is = (view.control.state, cc)
     go false is = cc
 
--- the first broken step is told with its name and its state
+-- the first broken step is given with its name and its state
 pub broken_first : (seen : Sights) (steps : List PlainStep) (entry : LogEntry) → first_broken seen steps ≡ Some entry
     → (name : List ℕ) × (state : State) × (entry ≡ Broke name state)
 broken_first seen [] entry is = cc
@@ -117,7 +117,7 @@ unhold_from_owed chart log seen entry steps (Wait obstacle) at is = cc
 unhold_from_owed chart log seen entry steps Whole at is =
     run_from chart log seen entry (next_after chart (chart_entries log) seen) refl is
 
--- a step that broke is told; where none did, what is owed an unhold or the chart's own entry comes
+-- a step that broke comes first; where none did, what is owed an unhold or the chart's own entry comes
 broke_from : (chart : PlainChart) (log : List LogEntry) (seen : Sights) (entry : LogEntry) (found : Option LogEntry)
     → first_broken seen (active chart log) ≡ found →
     did_or found (run_next (unless_whole (first_unhold seen (owed seen log (active chart log)))

@@ -50,7 +50,7 @@ seen_of history binds role service view is = go (bound_tag binds role) refl is
           refl,
         )
 
--- a role that is bound is told by its tag
+-- the tag that a batch sees of a bound role is the one of the bind
 pub tag_of_bound : (history : History) (binds : List Bind) (role tag : List ℕ) → bound_tag binds role ≡ Some tag →
     tag_of (sights_by binds (λ tag. past tag history)) role ≡ tag
 tag_of_bound history binds role tag bound = ap (λ found. or_role found role) bound

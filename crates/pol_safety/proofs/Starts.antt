@@ -112,7 +112,7 @@ pub record IsGoodChart (chart : PlainChart) : Type 0 where
 abbrev pub GoodCharts : Sides → Type 0
 GoodCharts side = (name : List ℕ) (chart : PlainChart) → chart_named name side.recipes ≡ Some chart → IsGoodChart chart
 
--- a chart of which no fault is told has none
+-- a chart of which no fault is found has none
 no_fault : (fault : Option ChartFault) → is_none fault ≡ true → fault ≡ None
 no_fault None none = refl
 no_fault (Some fault) none = cc

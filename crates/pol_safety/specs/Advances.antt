@@ -65,7 +65,8 @@ pub record IsAdvanced (history : History) (batch : List ℕ) (answer : Answer) :
   pub goes_on : continues answer ≡ true → GoesOn history batch started chart
   pub holds : (step tag service : List ℕ) → answer ≡ Did (Hold step tag service) → IsHeldOnce history batch step
 
--- in every legal history of orderly events each accepted advance is answered so
+-- In every legal history of orderly events each accepted advance is of an open batch with a chart, and it is answered
+-- by what comes next in the run of that chart, where that run goes on.
 abbrev pub AdvancesFollowCharts : Type 0
 AdvancesFollowCharts =
     (history : History) (entry : PlainEntry) (at : ℕ) (batch : List ℕ) → IsLegal (entry ∷ history) → IsOrderly history →

@@ -14,7 +14,7 @@ pub record FollowsChart (history : History) (batch : List ℕ) (chart : PlainCha
   pub partial : IsPartial chart (chart_entries (log_of history batch))
   pub complete : outcome_of history batch ≡ Some Completed → IsComplete chart (chart_entries (log_of history batch))
 
--- in every legal history of orderly events the log of each batch follows the chart of its recipe
+-- In every legal history of orderly events the log of each batch follows the chart of its recipe.
 abbrev pub LogsFollowCharts : Type 0
 LogsFollowCharts =
     (history : History) (batch : List ℕ) (chart : PlainChart) → IsLegal history → IsOrderly history →

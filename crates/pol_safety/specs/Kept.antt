@@ -25,7 +25,7 @@ pub record IsLiveBy (docking : Docking) (found : Option ServiceView) : Type 0 wh
 abbrev pub IsLive : List ℕ → History → Type 0
 IsLive service past = IsLiveBy (docking_by past) (view_by service past)
 
--- a module plays the role, and is so
+-- a module plays the role; it is docked, and its service was reported since
 pub record IsSeen (modules : List ℕ → History) (binds : List Bind) (role service : List ℕ) : Type 0 where
   pub tag : List ℕ
   pub bound : bound_tag binds role ≡ Some tag
@@ -54,7 +54,8 @@ pub record IsOpen (history : History) (batch : List ℕ) (started : Started) (ch
   pub chart_is : chart_of history batch ≡ Some chart
   pub unclosed : outcome_of history batch ≡ None
 
--- in every legal history of orderly events each open batch is kept so
+-- In every legal history of orderly events each open batch holds and watches the modules that it binds, each of which
+-- covers its role, and the service of each active step was reported.
 abbrev pub BatchesAreKept : Type 0
 BatchesAreKept =
     (history : History) (batch : List ℕ) (started : Started) (chart : PlainChart) → IsLegal history
@@ -70,7 +71,7 @@ pub record IsHolder (history : History) (tag batch : List ℕ) : Type 0 where
   pub binds : Contains started.binds.held bind
   pub tag_is : bind.tag ≡ tag
 
--- in every legal history of orderly events the holder of a module is an open batch that binds it
+-- In every legal history of orderly events the holder of a module is an open batch that binds it.
 abbrev pub HoldersAreOpen : Type 0
 HoldersAreOpen =
     (history : History) (tag batch : List ℕ) → IsLegal history → IsOrderly history →
@@ -86,7 +87,7 @@ pub record IsWatcher (history : History) (tag batch : List ℕ) : Type 0 where
   pub binds : Contains started.binds.watched bind
   pub tag_is : bind.tag ≡ tag
 
--- in every legal history of orderly events each watcher of a module is an open batch that watches it
+-- In every legal history of orderly events each watcher of a module is an open batch that watches it.
 abbrev pub WatchersAreOpen : Type 0
 WatchersAreOpen =
     (history : History) (tag batch : List ℕ) → IsLegal history → IsOrderly history →

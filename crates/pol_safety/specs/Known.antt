@@ -24,7 +24,7 @@ pub record HasChart (history : History) (batch : List ℕ) : Type 0 where
   pub is_formed : IsTrue (is_chart_form chart)
   pub valid : IsValid chart
 
--- in every legal history of orderly events each started batch has one
+-- In every legal history of orderly events each started batch has a formed and valid chart.
 abbrev pub StartedHaveCharts : Type 0
 StartedHaveCharts =
     (history : History) (batch : List ℕ) (started : Started) → IsLegal history → IsOrderly history →
@@ -41,11 +41,11 @@ pub record CountsTags (history : History) : Type 0 where
   pub members : (tag : List ℕ) → is_among (present_tags history) tag ≡ is_there (docking_of history tag)
   pub once : IsDistinct bytes_eq (present_tags history)
 
--- in every legal history they are
+-- In every legal history the tags that are counted as present are those that are docked or away, each once.
 abbrev pub TagsAreCounted : Type 0
 TagsAreCounted = (history : History) → IsLegal history → CountsTags history
 
--- in every legal history of orderly events each tag that is docked or away has a description
+-- In every legal history of orderly events each tag that is docked or away has a description.
 abbrev pub TagsAreDescribed : Type 0
 TagsAreDescribed =
     (history : History) (tag : List ℕ) → IsLegal history → IsOrderly history →
@@ -59,7 +59,7 @@ pub record SeesModules (history : History) (batch : List ℕ) (started : Started
   pub views : (step : PlainStep) → Contains (active chart (log_of history batch)) step →
       (view : ServiceView) × ((seen_by history started).view step.role step.service ≡ sight.Is view)
 
--- in every legal history of orderly events each open batch does
+-- In every legal history of orderly events each open batch sees its modules.
 abbrev pub OpenBatchesSee : Type 0
 OpenBatchesSee =
     (history : History) (batch : List ℕ) (started : Started) (chart : PlainChart) → IsLegal history

@@ -15,7 +15,7 @@ pub record WasPermitted (history : History) (sent : Sent) : Type 0 where
   pub seen : view_of history sent.tag sent.service ≡ Some view
   pub permitted : IsPermitted view sent.speaker sent.command
 
--- in every legal history each command that an answer sends was permitted by what was reported before it
+-- In every legal history each command that an answer sends was permitted by what was reported before it.
 abbrev pub CommandsArePermitted : Type 0
 CommandsArePermitted =
     (history : History) (entry : PlainEntry) (sent : Sent) → IsLegal (entry ∷ history) →

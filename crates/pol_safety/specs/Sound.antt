@@ -44,7 +44,7 @@ pub record IsSound (history : History) : Type 0 where
 -- what holds of an entry after the history before it
 pub record IsRight (history : History) (entry : PlainEntry) : Type 0 where
   pub answered : entry.answer ≡ answer_of history entry.event
-  -- a command that it sends was permitted
+  -- a command that the answer sends was permitted
   pub permitted : (sent : Sent) → sent_command entry.answer ≡ Some sent → WasPermitted history sent
   -- an accepted advance is answered as the runs of the chart say
   pub advances : (at : ℕ) (batch : List ℕ) → entry.event ≡ advance at batch → is_accepted entry.answer ≡ true →
@@ -52,11 +52,11 @@ pub record IsRight (history : History) (entry : PlainEntry) : Type 0 where
   -- a refused event changes nothing
   pub refused : is_accepted entry.answer ≡ false → ChangesNothing entry history
 
--- every legal history of orderly events is sound
+-- Every legal history of orderly events is sound.
 abbrev pub HistoriesAreSound : Type 0
 HistoriesAreSound = (history : History) → IsLegal history → IsOrderly history → IsSound history
 
--- and each entry of it is right
+-- Each entry of a legal history of orderly events is right.
 abbrev pub EntriesAreRight : Type 0
 EntriesAreRight = (history : History) (entry : PlainEntry) → IsLegal (entry ∷ history) → IsOrderly history →
     IsRight history entry

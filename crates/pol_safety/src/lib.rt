@@ -1,7 +1,7 @@
-//! How a plant conducts itself, whatever journal it is given: every command was permitted before it was sent, every
-//! batch log follows its chart, an advance is answered by what comes next in the runs of that chart, what every event
-//! keeps of the batches and their modules, and that no answer rests on a value that is missing. Each is a law over all
-//! legal histories, the contract of a function with an empty body; `specs/Sound.antt` has them together.
+//! The safety laws of a plant, which hold whatever journal it is given: every command was permitted before it was sent;
+//! every batch log follows its chart; an advance is answered by what comes next in the runs of that chart; every event
+//! keeps what holds of the batches and their modules; and no answer rests on a value that is missing. Each is a law
+//! over all legal histories, the contract of a function with an empty body; `specs/Sound.antt` has them together.
 //!
 //! It knows nothing of how an answer is found.
 //!

@@ -23,7 +23,7 @@ nothing_left :
 nothing_left nothing is None = refl
 nothing_left nothing is (Some last) = is
 
--- what is forgotten leaves nothing told
+-- where all is forgotten, nothing was reported
 forgotten_nothing : (old new : Reported) → ForgetsAll old new → ReportedNothing new
 forgotten_nothing old new forgets = record {
   controls = λ name. ap (λ found. option_and_then (λ last. last) found) (forgets.controls name)
@@ -36,7 +36,7 @@ docked_reported : (berth : Berth) → ticket_in berth ≡ None → berth ≡ Doc
 docked_reported (Docked reported) is = refl
 docked_reported (Away kept) is = cc
 
--- a module that told nothing is docked
+-- a module that reported nothing is docked
 pub docked_fresh :
     (old new : Slot) (described : PlainDescription) (reported : Reported) → new.berth ≡ Docked reported
     → ReportedNothing reported

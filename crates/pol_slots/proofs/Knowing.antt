@@ -1,4 +1,4 @@
--- What is known of names that were told nothing yet.
+-- What is known of names of which nothing was reported yet.
 use Rattle.std.proofs.Common.{◌≡◌, Bool, true, false, ◌||◌, cond, List, [], ◌∷◌, map, Option, Some, None, refl, sym}
 use Rattle.std.proofs.Common.{◌∙◌, ap, is_some}
 use Rattle.std.specs.Prelude.{option_and_then, find, if◌then◌else◌}
@@ -37,7 +37,7 @@ nothing_if : {A : Type 0} (any : Bool) (last : Option A) → last ≡ None
 nothing_if true last is = is
 nothing_if false last is = refl
 
--- and was told nothing
+-- nothing was reported of the name
 pub reported_nothing_where : {A : Type 0} (any : Bool) (found : Option (Option A))
     → found ≡ (if any then Some None else None) → option_and_then (λ last. last) found ≡ None
 reported_nothing_where any found is = ap (λ each. option_and_then (λ last. last) each) is ∙ nothing_if any None refl

@@ -1,4 +1,4 @@
--- Whether a module is docked or away, and what it told.
+-- Whether a module is docked or away, and what it reported.
 use Rattle.std.specs.Prelude.{ℕ, ◌≡◌, Option, Some, None}
 use Rattle.pol_slots.specs.Reported.{ForgetsAll}
 use Rattle.pol_slots.specs.declared.berth.Berth.{Berth}
@@ -10,17 +10,17 @@ abbrev pub ticket_in : Berth → Option ℕ
 ticket_in (Docked reported) = None
 ticket_in (Away kept) = Some kept.ticket
 
--- what the module told; of one that is away, what it told before
+-- what the module reported; of one that is away, what it reported before
 abbrev pub reported_in : Berth → Reported
 reported_in (Docked reported) = reported
 reported_in (Away kept) = kept.part
 
--- what the module told, while it is docked
+-- what the module reported, while it is docked
 abbrev pub docked_in : Berth → Option Reported
 docked_in (Docked reported) = Some reported
 docked_in (Away kept) = None
 
--- the module is docked again, and all that it told is forgotten
+-- the module is docked again, and all that it reported is forgotten
 pub record IsBack (old new : Berth) : Type 0 where
   pub docked : ticket_in new ≡ None
   pub forgotten : ForgetsAll (reported_in old) (reported_in new)

@@ -12,7 +12,7 @@ abbrev pub ticket_rule : ℕ → Option ℕ → Option Rule
 ticket_rule given None = Some NotInExchange
 ticket_rule given (Some kept) = wrong_ticket given (Some kept)
 
--- by the rule that holds; where none holds, for want of memory
+-- why the end of an exchange is refused: by the rule that holds; where none holds, because there was no memory
 abbrev pub refusal_by : Option Rule → SlotRefusal
 refusal_by (Some rule) = refusal.Rule rule
 refusal_by None = refusal.Memory

@@ -29,7 +29,7 @@ sight_of None view = sight_of_view view
 abbrev pub slot_sight : Slot → List ℕ → Sight
 slot_sight slot service = sight_of (slot_ticket slot) (slot_view slot service)
 
--- a view, unless a rule is against it; none at all is told by another rule
+-- a view, unless a rule is against it; where there is no view, another rule says so
 abbrev pub view_unless : Option Rule → Rule → Option ServiceView → Result ServiceView Rule
 view_unless (Some rule) unseen view = Err rule
 view_unless None unseen None = Err unseen

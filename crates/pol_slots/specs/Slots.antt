@@ -8,19 +8,19 @@ use Rattle.pol_slots.specs.Berths.{ticket_in, docked_in}
 use Rattle.pol_slots.specs.LastValues.{last_in}
 use Rattle.pol_slots.specs.declared.slot.Slot.{Slot}
 
--- the tag of its module
+-- the tag of the slot's module
 abbrev pub slot_tag : Slot → List ℕ
 slot_tag slot = slot.tag
 
--- the description of its module; while the module is away, the old one
+-- the description of the slot's module; while the module is away, the old one
 abbrev pub slot_description : Slot → PlainDescription
 slot_description slot = plain_description slot.description.value
 
--- how often its module began an exchange
+-- how often the slot's module began an exchange
 abbrev pub slot_begins : Slot → ℕ
 slot_begins slot = slot.begins
 
--- the ticket under which its module is away; none while it is docked
+-- the ticket under which the slot's module is away; none while it is docked
 abbrev pub slot_ticket : Slot → Option ℕ
 slot_ticket slot = ticket_in slot.berth
 

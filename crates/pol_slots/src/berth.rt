@@ -1,4 +1,4 @@
-//! Whether a module is docked or away.
+//! A module's berth: it is docked, or away for exchange, with what it reported.
 ghost use Rattle.std.specs.Prelude.{◌≡◌, Some, None, OnOk, OnErr, option_and_then};
 ghost use Rattle.std.specs.Map.{lookup};
 ghost use Rattle.std.specs.Str.{bytes_eq};
@@ -15,7 +15,7 @@ use pol_events::Rule;
 use pol_exchange::{Away, Docked, WrongTicket};
 use std::alloc::Global;
 
-/// A module that is docked, or away for exchange, with what it told.
+/// A module that is docked, or away for exchange, with what it reported.
 #[derive(Drop)]
 pub(crate) enum Berth {
     Docked(Docked<Reported>),
@@ -33,12 +33,12 @@ fn wrong_ticket(wrong: WrongTicket) -> Rule
 }
 
 impl Berth {
-    /// A berth of no module, to stand in a slot while its own berth changes. Takes no memory.
+    /// A berth of no module, which fills a slot while the slot's own berth changes. Takes no memory.
     pub(crate) fn empty(alloc: Global) -> Berth {
         Berth::docked(Reported::empty(alloc))
     }
 
-    /// A docked module that told this.
+    /// A docked module that reported this.
     pub(crate) fn docked(reported: Reported) -> Berth
         ensures { result ≡ Berth.Docked reported }
     {
@@ -81,7 +81,8 @@ impl Berth {
         }
     }
 
-    /// What the variable of the docked module was reported with last, likewise.
+    /// What the variable of the docked module was reported with last; None where the module has no such variable, or is
+    /// away.
     pub(crate) fn value(&self, name: Name) -> Option<Option<Value>>
         ensures { result ≡ option_and_then (λ reported. lookup (bytes_eq name) reported.values) (docked_in self.now) }
     {
@@ -132,7 +133,7 @@ impl Berth {
         }
     }
 
-    /// Docks another module, which told this, in place of the one that is away.
+    /// Docks another module, which reported this, in place of the one that is away.
     ///
     /// `NotInExchange` where none is away, `WrongTicket` where the ticket isn't its own; then all stays.
     pub(crate) fn finish(self, ticket: u32, reported: Reported) -> (Berth, Result<(), Rule>)
@@ -150,7 +151,7 @@ impl Berth {
         }
     }
 
-    /// Docks the module that is away again, with nothing told; refused as [`Berth::finish`] is.
+    /// Docks the module that is away again, with nothing reported; refused as [`Berth::finish`] is.
     pub(crate) fn cancel(self, ticket: u32) -> (Berth, Result<(), Rule>)
         ensures answer { result.1 ≡ done_unless (ticket_rule ticket (ticket_in self)) }
         ensures docked { OnOk result.1 (IsBack self result.0) }

@@ -90,7 +90,7 @@ impl Slot {
     /// was reported of it yet.
     ///
     /// `NotInExchange` while the module is docked, `WrongTicket` with both tickets where the given one isn't that of
-    /// the exchange; else `Memory` for want of memory. After each the slot is unchanged.
+    /// the exchange; else `Memory` where there is no memory. After each the slot is unchanged.
     #[tactic(auto, unfolding(crate::specs::Slots::last_control, crate::specs::Slots::last_value))]
     pub fn finish(&mut self, ticket: u32, description: Arc<Description>) -> Result<(), SlotRefusal>
         ensures accepted { OnOk result (ticket_rule ticket (slot_ticket self.old) ≡ None) }

@@ -1,4 +1,4 @@
-//! One module of a plant: docked or away for exchange, with what it told since it was docked.
+//! One module of a plant: docked or away for exchange, with what it reported since it was docked.
 //!
 //! It knows nothing of other modules, of who holds this one, or of the history: contracts see a slot through
 //! `specs/Slots.antt`. Each call answers the first rule that what the slot keeps decides, and changes the slot as an

@@ -12,7 +12,7 @@ pub enum SlotRefusal {
 }
 
 impl SlotRefusal {
-    /// By the rule, where there is one; else for want of memory.
+    /// By the rule, where there is one; else because there was no memory.
     pub(crate) fn by(rule: Option<Rule>) -> SlotRefusal
         ensures { result ≡ refusal_by rule }
     {

@@ -1,4 +1,4 @@
-//! What a module told since it was docked.
+//! What a module reported since it was docked.
 ghost use Rattle.std.specs.Prelude.{◌≡◌, ℕ, List, Some, None, IfOk, if◌then◌else◌};
 ghost use Rattle.std.specs.List.{list_any};
 ghost use Rattle.std.specs.Map.{lookup};
@@ -53,7 +53,7 @@ impl Reported {
         }
     }
 
-    /// Nothing yet, with room for all that a module of this description can tell.
+    /// Nothing yet, with room for all that a module of this description can report.
     pub(crate) fn new(alloc: Global, description: &Description) -> Result<Reported, AllocError>
         ensures services { IfOk result (KnowsServices (plain_description description.now)) }
         ensures variables { IfOk result (KnowsVariables (plain_description description.now)) }
@@ -64,7 +64,7 @@ impl Reported {
         Ok(Reported { controls, values })
     }
 
-    /// Forgets all that was told.
+    /// Forgets all that was reported.
     pub(crate) fn forget(&mut self)
         ensures { ForgetsAll self.old self.new }
     {

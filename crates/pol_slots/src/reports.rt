@@ -1,4 +1,4 @@
-//! What a module reports.
+//! Takes what a module reports: the control of a service, or the value of a variable.
 ghost use Rattle.std.specs.Prelude.{◌≡◌, ℕ, List, Some, IfOk, OnOk, OnErr, if◌then◌else◌, option_map};
 ghost use Rattle.std.specs.Str.{bytes_eq};
 ghost use Rattle.mtp_codes.specs.Faults.{done_unless, first_of};

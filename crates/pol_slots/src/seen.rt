@@ -1,4 +1,4 @@
-//! What is seen of a module.
+//! What is seen of a module's services and variables.
 ghost use Rattle.std.specs.Prelude.{◌≡◌};
 ghost use Rattle.mtp_codes.specs.Faults.{done_unless};
 ghost use Rattle.pol_events.specs.Refusals.{not_at_rest};
@@ -81,7 +81,8 @@ impl Slot {
         }
     }
 
-    /// What is seen of a variable, likewise. A variable whose last value is a text is seen as not reported.
+    /// What is seen of a variable: the module is away; or the variable wasn't reported since docking, or isn't there;
+    /// or what it was reported with last. A variable whose last value is a text is seen as not reported.
     pub fn reading(&self, name: Name) -> ReadingSight
         ensures { result ≡ slot_reading self.now name }
     {

@@ -10,7 +10,7 @@ use std::alloc::Global;
 use std::sync::Arc;
 
 /// A module under its tag: its description, how often it began an exchange, and whether it is docked or away, with what
-/// each of its services and variables told last since docking.
+/// was reported last of each of its services and variables since docking.
 #[derive(Drop)]
 pub struct Slot {
     pub(crate) alloc: Global,

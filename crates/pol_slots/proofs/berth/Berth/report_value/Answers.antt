@@ -1,4 +1,4 @@
--- The value is told to what the docked module told before.
+-- The value is added to what the docked module reported before.
 use Rattle.std.proofs.Common.{refl}
 use Rattle.pol_slots.proofs.berth.Berth.report_value.Goals as goal
 

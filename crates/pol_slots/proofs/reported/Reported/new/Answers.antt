@@ -1,4 +1,4 @@
--- The names of the description are known, and were told nothing.
+-- The names of the description are known, and nothing was reported of them.
 use Rattle.std.proofs.Common.{bytes_eq}
 use Rattle.mtp_assembly.specs.Plain.{plain_variable}
 use Rattle.mtp_desc.specs.PlainService.{plain_service}
