@@ -40,8 +40,8 @@ pub fn later_answers_alike()
     ensures { LaterAnswersAlike }
 {}
 
-/// The closed batches may be forgotten: without their events the plant answers whatever comes later as before, but for
-/// what names one of them or was refused as full.
+/// The closed batches may be forgotten: without their events and those refused for another's sake the plant answers
+/// whatever comes later as before, but for what names one of these batches or was refused as full.
 pub fn closed_may_be_forgotten()
     ensures { ClosedMayBeForgotten }
 {}
