@@ -10,7 +10,7 @@ use Rattle.pol_record.specs.Verdicts.{verdict_text}
 use Rattle.pol_stream.specs.Inputs.{silent}
 use Rattle.pol_cli.specs.Audits.{audit_of}
 
--- so many bytes were read, and they have this checksum
+-- the object that says how many bytes were read, and their checksum
 unfoldable pub read_object : ℕ → List ℕ → Data
 read_object count sum =
     object (member (codes "bytes") (number (unsigned count)) (member (codes "sha256") (string sum) no_members))

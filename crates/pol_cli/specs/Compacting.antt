@@ -9,12 +9,12 @@ use Rattle.pol_renewed.specs.Guarded.{CompactionCommandsAlike, CompactionReplies
 use Rattle.pol_renewed.specs.Overviews.{CompactionTellsAlike}
 use Rattle.pol_renewed.specs.Renewed.{renewed_after, whole_after}
 
--- Whatever the events of the plant were, and whatever comes later.
+-- What holds of a plant that goes on, whatever its events were, and whatever comes later.
 pub record CompactionTheorem : Type 0 where
   -- the events that stay are answered as they were
   pub kept : KeptIsAnsweredAgain
-  -- what comes later is answered behind them as behind all events, but for what names a batch that was closed there and
-  -- what is refused there as full
+  -- what comes later is answered behind the events that stay as behind all events, but for what names a batch that was
+  -- closed there and what is refused there as full
   pub later : LaterIsAnsweredAlike
   -- the lines of the batches that weren't closed there are the same
   pub lines : LinesStay

@@ -53,7 +53,7 @@ AreReadBack entries = AllByRecursion IsReadBack entries
 abbrev pub AreRetold : List PlainEntry → Type 0
 AreRetold entries = AllByRecursion IsRetold entries
 
--- What is written of the history tells it: of at most 20,000 entries, where no line is too long, none of an entry and
+-- What is written of the history says it: of at most 20,000 entries, where no line is too long, none of an entry and
 -- none of a batch, the audit finds it good; and a replay of its events, where none is too long for a line, gives its
 -- answers, its batch lines and the end line.
 pub record IsToldWell (history : History) : Type 0 where

@@ -261,7 +261,7 @@ abbrev pub AskForKept : List (List ℕ) → Type 0
 AskForKept words = Means words Keep ⊎ AskForJournal words
 
 -- the words ask for a job that may end with this status: with 10 one on a kept or an operated plant, with 11 one on a
--- kept plant, with 12 one on an operated plant, with 13 none, since the program alone tells it, and with another any
+-- kept plant, with 12 one on an operated plant, with 13 none, since the program alone returns it, and with another any
 abbrev pub AskForDiskOf : List (List ℕ) → Status → Type 0
 AskForDiskOf words DiskFault = AskForKept words ⊎ Means words Operate
 AskForDiskOf words (NotAStore place) = AskForKept words

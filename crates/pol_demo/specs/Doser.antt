@@ -20,7 +20,7 @@ level = record { name = codes "level"; kind = Ana }
 abbrev pub dose : PlainProcedure
 dose = record { number = 1; is_default = true; self_completing = true; params = amount ∷ [] }
 
--- its one service
+-- the one service of a doser
 abbrev pub dose_service : PlainService
 dose_service = record { name = codes "dose"; procedures = dose ∷ [] }
 

@@ -20,12 +20,12 @@ Happening = ℕ → PlainEvent
 abbrev pub docked : ℕ → Happening
 docked place = λ at. plug at (tag_of place) doser
 
--- its service reports a state, and the sum of the codes of the commands that it enables
+-- the service of a module reports a state, and the sum of the codes of the commands that it enables
 abbrev pub reported : List ℕ → State → ℕ → Happening
 reported tag state mask = λ at. report at tag (codes "dose")
     (record { state = state; mask = mask; mode = Automatic; origin = External; procedure = 0 })
 
--- it reports for the first time
+-- a module reports for the first time
 abbrev pub idle : ℕ → Happening
 idle place = reported (tag_of place) Idle 4
 
@@ -42,11 +42,11 @@ started batch tag = λ at. start at batch (codes "one")
 abbrev pub advanced : List ℕ → Happening
 advanced batch = λ at. advance at batch
 
--- the level of a module is told
+-- the level of a module is reported
 abbrev pub leveled : List ℕ → ℕ → Happening
 leveled tag value = λ at. variable at tag (codes "level") (Whole (pos value))
 
--- the value that is told so many places behind the first of those that follow on a number of the sequence
+-- the value that is reported so many places behind the first of those that follow on a number of the sequence
 abbrev pub measured : List ℕ → ℕ → ℕ → Happening
 measured tag number places = leveled tag (value_of (drawn number (places + 1)))
 

@@ -31,14 +31,14 @@ summary_of history =
       refused = count_by (λ entry. is_refused entry.answer) history;
     }
 
--- its object
+-- the object of a summary
 unfoldable pub summary_data : Summary → Data
 summary_data summary = object
     (member (codes "answers") (whole summary.answers)
     (member (codes "closed") (whole summary.closed)
     (member (codes "refused") (whole summary.refused) no_members)))
 
--- its line
+-- the line of a summary
 abbrev pub summary_text : Summary → List ℕ
 summary_text summary = compact_text (summary_data summary) ++ 10 ∷ []
 

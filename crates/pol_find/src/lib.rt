@@ -9,6 +9,7 @@
 //! is `pol_match`'s. Its laws are that a start with a binding, and so with the one that is written, is done
 //! (`bindings_start`, `told_bindings_start`, `offers_start`), and that there is always exactly one output
 //! (`always_found`).
+//!
 //! Tried in `pol_examples`.
 #![tactic(auto)]
 

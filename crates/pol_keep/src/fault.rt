@@ -1,4 +1,4 @@
-//! Why a job on a kept plant doesn't come to its end.
+//! Why a job on a kept plant ends early.
 ghost use Rattle.std.specs.Prelude.{◌≡◌, ◌≢◌, ℕ, IfErr};
 ghost use Rattle.pol_keep.specs.Exported.{put_result};
 ghost use Rattle.pol_keep.specs.Kept.{IsFaultOf, job_result};
@@ -11,7 +11,7 @@ use std::convert::Infallible;
 #[derive(Drop)]
 pub struct DiskFailed;
 
-/// Why a job on a kept plant doesn't come to its end.
+/// Why a job on a kept plant ends early.
 #[derive(Clone, Copy, Debug, PartialEq, Eq)]
 pub enum KeepFault {
     /// The source failed.

@@ -66,7 +66,7 @@ fn keep_on<S: Source, K: Sink, D: Disk>(
 /// `NotAStore` exactly where it did not and the disk reads as bytes for which no list of at most 200,000 events stands,
 /// unless there was no memory. The old events are those that the disk reads as, whatever a crash might leave of it. A
 /// crash at any moment of the call leaves what it might have left before, or the old events and the new ones of the
-/// first lines. What is said of the disk's bytes holds where it tells them to the end: where each answer was the one of
+/// first lines. What is said of the disk's bytes holds where it gives them to the end: where each answer was the one of
 /// a disk. At the end each image stands for so many of these that each line whose answer the sink took whole is among
 /// them; where all is done, for those of all lines.
 pub fn keep<S: Source, K: Sink, D: Disk>(

@@ -51,7 +51,7 @@ one_who (Some name) (Some other) behind rest is is' same =
 abbrev done : PlainEvent → Result PlainEvent LineFault
 done x = Ok x
 
--- it gives one event
+-- reading an event gives one event
 ok_same : (x y : PlainEvent) → done x ≡ done y → x ≡ y
 ok_same x y same = cc
 

@@ -11,7 +11,7 @@ is_printable byte = nat_le 32 byte && nat_le byte 126
 abbrev pub is_build : List ℕ → Bool
 is_build bytes = (nat_le 1 (length bytes) && nat_le (length bytes) 96) && list_all is_printable bytes
 
--- how it is kept: its bytes, then zeros up to 96
+-- how the name of a build is kept: its bytes, then zeros up to 96
 pub record IsKeptBuild (bytes : List ℕ) (len : ℕ) : Type 0 where
   pub padding : IsPadded 96 bytes len
   pub form : IsTrue (is_build (take len bytes))

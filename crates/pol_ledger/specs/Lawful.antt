@@ -33,7 +33,7 @@ length-after history (event ∷ events) =
       length-after (recorded (entry_of history event) history) events,
     )
 
--- that of a ledger is no longer than what was asked for
+-- the history of a ledger is no longer than what was asked for
 pub length-history : (so_far : List PlainAsked) → length (history_of so_far) ≤ length so_far
 length-history so_far =
     let events = map (λ (one : PlainAsked). one.event) so_far in
@@ -48,7 +48,7 @@ grows (Some ledger) (header build) is = cc
 grows (Some ledger) (asked one) is =
     rw is (ap (λ (items : List PlainItem). header ledger.build ∷ items) (map_push asked ledger.so_far one))
 
--- one that isn't changes nothing
+-- an item that isn't kept changes nothing
 stays : (state : Option BegunLedger) (item : PlainItem) → keeps_item (ledger_answer state item) ≡ false →
     ledger_after state item ≡ state
 stays None (header build) is = cc
@@ -56,7 +56,7 @@ stays None (asked one) is = refl
 stays (Some ledger) (header build) is = refl
 stays (Some ledger) (asked one) is = rw is refl
 
--- where there is room, one that has its place is kept
+-- where there is room, an item that has its place is kept
 has_room : (state : Option BegunLedger) (item : PlainItem) (text : List ℕ) → IsTextOf (items_of state) item text →
     length (items_of state) < LONGEST_HISTORY + 1 → keeps_item (ledger_answer state item) ≡ true
 has_room None (header build) text is room = refl

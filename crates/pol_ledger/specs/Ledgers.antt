@@ -41,7 +41,7 @@ pub record IsLedger (ledger : PlainLedger) (sum : Option (List ℕ)) : Type 0 wh
   pub sealed : bytes_before sum ≡ sum_of (items_of (ledger_state ledger))
   pub idle : IfNone ledger.build (ledger.names ≡ [])
 
--- nothing happened between the two; there may be more room
+-- nothing happened between two states of a ledger; there may be more room
 pub record IsSameLedger (old new : PlainLedger) : Type 0 where
   pub entries : new.plant.entries ≡ old.plant.entries
   pub names : new.names ≡ old.names

@@ -12,7 +12,7 @@ use Rattle.pol_ledger.specs.Work.{BegunLedger, items_of, ledger_work}
 abbrev pub this_header : PlainItem
 this_header = header this_build
 
--- what opening makes of the ledger that stood on the disk: the same, or where none was begun one that this build began
+-- what opening makes of the ledger on the disk: the same, or where none was begun one that this build began
 abbrev pub begun_anyway : Option BegunLedger → Option BegunLedger
 begun_anyway None = Some (record { build = this_build; so_far = [] })
 begun_anyway (Some ledger) = Some ledger
@@ -40,8 +40,8 @@ pub record IsOfFound (all image : List ℕ) : Type 0 where
 abbrev pub MayBeLeft : List ℕ → (List ℕ → Type 0) → List ℕ → Type 0
 MayBeLeft all images image = of_items.IsLeftOf ledger_work all images image ⊎ IsOfFound all image
 
--- what a fault says: of NotAStore, that no call of the disk failed, and where the disk tells its bytes still, that no
--- items stand for them, and that the first record that doesn't follow stands at this place
+-- what a fault says: of NotAStore, that no call of the disk failed, and where the disk gives its bytes still, that no
+-- items stand for them, and that the first record that doesn't follow is at this place
 abbrev pub Tells : OpenFault → Option (List ℕ) → Option (List ℕ) → ℕ → ℕ → Type 0
 Tells Memory seen seen' faults faults' = Unit {0}
 Tells Disk seen seen' faults faults' = Unit {0}

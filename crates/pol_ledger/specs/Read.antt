@@ -9,7 +9,7 @@ abbrev pub NamesBuild : List ℕ → Option (List ℕ) → Type 0
 NamesBuild rest (Some build) = (rest ≡ 1 ∷ build) × IsTrue (is_build build)
 NamesBuild rest None = (build : List ℕ) → IsTrue (is_build build) → rest ≡ 1 ∷ build → ⊥
 
--- the bytes begin with those of who asked, and these stand behind
+-- the bytes begin with those of who asked, and these follow
 pub record BeginsWithWho (bytes : List ℕ) (by : Option (List ℕ)) (behind : List ℕ) : Type 0 where
   pub begins : bytes ≡ who_bytes by ++ behind
   pub form : IsWho by

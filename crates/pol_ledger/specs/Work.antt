@@ -14,16 +14,16 @@ pub record BegunLedger : Type 0 where
   pub build : List ℕ
   pub so_far : List PlainAsked
 
--- the history of its plant: its events, in order
+-- the history of a ledger's plant: what was asked for, in order
 abbrev pub history_of : List PlainAsked → History
 history_of so_far = history_after [] (map (λ (one : PlainAsked). one.event) so_far)
 
--- its items: none before it was begun, and else the header and what was asked for
+-- the items of a ledger: none before it was begun, and else the header and what was asked for
 abbrev pub items_of : Option BegunLedger → List PlainItem
 items_of None = []
 items_of (Some ledger) = header ledger.build ∷ map asked ledger.so_far
 
--- what it answers: a header begins a ledger, and an event is answered as the plant does where one was begun
+-- what a ledger answers: a header begins it, and an event is answered as the plant does where it was begun
 abbrev pub ledger_answer : Option BegunLedger → PlainItem → LedgerAnswer
 ledger_answer None (header build) = Begun
 ledger_answer None (asked one) = Misplaced
@@ -48,7 +48,7 @@ keeps_item Begun = true
 keeps_item Misplaced = false
 keeps_item (Answered answer) = is_recorded answer
 
--- the item may stand behind these: a header first, and an event behind a header
+-- the item may follow these: a header first, and an event behind a header
 abbrev pub HasPlace : List PlainItem → PlainItem → Type 0
 HasPlace [] (header build) = Unit {0}
 HasPlace [] (asked one) = ⊥
@@ -57,7 +57,7 @@ HasPlace (header begun ∷ items) (asked one) = Unit {0}
 HasPlace (asked first ∷ items) (asked one) = ⊥
 
 -- the text is that of the item's record behind those of these items: it is written so, the item can be read from it,
--- and it may stand there
+-- and it may follow them
 pub record IsTextOf (before : List PlainItem) (item : PlainItem) (text : List ℕ) : Type 0 where
   pub written : text ≡ text_behind before item
   pub form : IsInForm item

@@ -7,6 +7,7 @@
 //! its text: where it was closed the ledger ends, as before the record was kept, and only a sum that was noted
 //! elsewhere shows that. For by `sums_tell_items` the sum of the last record determines all items, as long as nobody
 //! has two messages with one SHA-256.
+//!
 //! The other main contracts are those of `open` and of the `Chronicle` methods of `Ledger`. It knows nothing of files,
 //! of lines of input, or of whether who asked may.
 //!

@@ -41,7 +41,7 @@ pub(crate) struct Stray {
 }
 
 impl Stray {
-    /// The same with the run in which it is.
+    /// This pair with the run in which it is.
     pub(crate) fn in_run(self, ran: Ran) -> Strayed
         ensures run { result.ran ≡ ran }
         ensures pair { (result.actor ≡ self.actor) × (result.place ≡ self.place) × (result.kept ≡ self.kept)

@@ -64,7 +64,7 @@ pub fn run_site<R: Threads + Wait + Sync, C: Clock + Send, G: Gate>(
     run_by_threads::<Brand, R, C, G>(rt, alloc, site, watchers, clock, gate, blank)
 }
 
-// The same, as any run of this site.
+// The run by threads, as any run of this site.
 fn run_by_threads<J: Job + Send + Sync, R: Threads + Wait + Sync, C: Clock + Send, G: Gate>(
     rt: &R,
     alloc: Global,
@@ -117,7 +117,7 @@ pub fn run_in_turn<R: Wait, C: Clock + Send, G: Gate>(
     run_by_turns::<Brand, R, C, G>(rt, alloc, site, clock, gate, blank)
 }
 
-// The same, as any run of this site.
+// The run by turns, as any run of this site.
 fn run_by_turns<J: Job, R: Wait, C: Clock + Send, G: Gate>(
     rt: &R,
     alloc: Global,

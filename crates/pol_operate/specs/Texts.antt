@@ -76,7 +76,7 @@ abbrev pub near_tokens : List Rule → List Token
 near_tokens [] = []
 near_tokens (first ∷ rules) = token.key (codes "near") ∷ data_tokens (rules_data (first ∷ rules))
 
--- so many events are kept, the limits of these rules are near, and the last record has this sum
+-- the object that says how many events are kept, which limits are near, and the sum of the last record
 unfoldable pub kept_object : ℕ → List Rule → List ℕ → Data
 kept_object count near sum =
     object (member (codes "kept") (number (unsigned count))

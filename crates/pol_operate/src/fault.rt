@@ -1,4 +1,4 @@
-//! Why the job on an operated plant doesn't come to its end.
+//! Why the job on an operated plant ends early.
 ghost use Rattle.std.specs.Prelude.{◌≡◌, ◌≢◌, ℕ, IfErr};
 ghost use Rattle.pol_operate.specs.Ends.{IsFaultOf, job_result};
 
@@ -10,7 +10,7 @@ use pol_kept::OpenFault;
 #[derive(Drop)]
 pub struct DiskFailed;
 
-/// Why the job on an operated plant doesn't come to its end.
+/// Why the job on an operated plant ends early.
 #[derive(Drop)]
 pub enum OperateFault {
     /// The source failed.

@@ -79,7 +79,7 @@ fn operate_on<S: Source, K: Sink, D: Disk>(
 /// stands; and where none at all does, it comes, unless the disk fails or there is no memory. The old items are those
 /// that the disk reads as, whatever a crash might leave of it. A crash at any moment of the call leaves what it might
 /// have left before, the old items, or these with the header of a new ledger, if it begins one, and the items of the
-/// first lines. What is said of the disk's bytes holds where it tells them to the end: where each answer was the one of
+/// first lines. What is said of the disk's bytes holds where it gives them to the end: where each answer was the one of
 /// a disk. At the end each image stands for so many of these that each line whose answer the sink took whole is among
 /// them; where all is done, for those of all lines.
 pub fn operate<S: Source, K: Sink, D: Disk>(

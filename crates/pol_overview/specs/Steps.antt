@@ -66,11 +66,11 @@ abbrev pub unheld_step : History → ActiveStep → Option Data
 unheld_step history step =
     option_map (λ by. unheld_object (forbid_name by) step.step step.tag) (unheld_by (step_sight history step))
 
--- those of these steps that a hold doesn't reach
+-- the steps among these that a hold doesn't reach
 abbrev pub unheld_steps : History → List ActiveStep → Data
 unheld_steps history steps = array (items_of (filter_map (unheld_step history) steps))
 
--- these steps of a batch that is frozen so, where their services are to be held
+-- these steps, where their batch is frozen with its services held; else none
 abbrev pub held_steps : Option Bool → List ActiveStep → List ActiveStep
 held_steps hold steps = if unwrap_or hold false then steps else []
 

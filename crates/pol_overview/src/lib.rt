@@ -1,4 +1,4 @@
-//! The overview of a plant for who operates it: lines of JSON with its state and with parts of its history.
+//! The overview of a plant for whoever operates it: lines of JSON with its state and with parts of its history.
 //!
 //! `put_entries_line` writes a part of its history (`specs/Entries.antt`), each entry with who asked for its event.
 //! `put_plant_line` writes its batches, of the open ones what each step does and what each waits for, its modules with
@@ -7,6 +7,7 @@
 //! (`specs/Overview.antt`, `specs/Modules.antt`, `specs/Batches.antt`, `specs/Steps.antt`, `specs/May.antt`,
 //! `specs/Near.antt`). An `Allowing` says which commands may be sent, and the caller says what the plant's file says of
 //! itself; the crate knows nothing of policies, files and questions.
+//!
 //! Tried in `operate_examples`.
 #![tactic(auto)]
 

@@ -14,7 +14,7 @@ use Rattle.pol_find.specs.Recipes.{recipes_of}
 abbrev pub whole_after : List PlainEvent → List PlainEvent → History
 whole_after events later = history_after (history_after [] events) later
 
--- the history of those that stay where the first ones are compacted, and of the later ones that are answered there
+-- the history of the events that stay where the first ones are compacted, and of the later ones that are answered there
 abbrev pub renewed_after : List PlainEvent → List PlainEvent → History
 renewed_after events later =
     history_after (history_after [] (compacted_events (history_after [] events)))

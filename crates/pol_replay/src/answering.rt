@@ -17,7 +17,7 @@ pub trait Answering<F: LineForm> {
     /// Why a line may stay unanswered.
     type Halt: Drop;
 
-    /// What the answer to a line comes to: from who answers before it to who does after it, and from what a buffer held
+    /// What the answer to a line leads to: from who answers before it to who does after it, and from what a buffer held
     /// before to what it holds after.
     ghost Answers: { Self → Self → List ℕ → List ℕ → Line → Type 0 };
 

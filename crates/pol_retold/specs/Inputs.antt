@@ -27,10 +27,10 @@ run_text history = flat_map entry_line_text (reverse history) ++ closing_text hi
 abbrev pub IsShortLine : List ℕ → Type 0
 IsShortLine line = length line ≤ suc LONGEST_LINE
 
--- ---- the one is the other
+-- ---- what is written is read
 
--- the bytes that are written of a legal history of at most 20,000 entries are audited good, where each entry is read
--- again from its own line, and no line is too long: none of an entry, and none of a batch
+-- The bytes that are written of a legal history of at most 20,000 entries are audited good, where each entry is read
+-- again from its own line, and no line is too long: none of an entry, and none of a batch.
 abbrev pub InputsAreGood : Type 0
 InputsAreGood =
     (history : History) → IsLegal history → length history ≤ MOST_JUDGED → AllByRecursion IsRetold history

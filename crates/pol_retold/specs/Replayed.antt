@@ -21,8 +21,8 @@ journal_of history = flat_map (λ entry. with_feed (event_text entry.event)) (re
 abbrev pub answers_text : History → List ℕ
 answers_text history = flat_map (λ entry. answer_text entry.answer) (reverse history)
 
--- the replay of the journal of a legal history gives its answers, its batch lines and the end line, where each event is
--- read back from its text, and no line is too long
+-- The replay of the journal of a legal history gives its answers, its batch lines and the end line, where each event is
+-- read back from its text, and no line is too long.
 abbrev pub ReplaysAnswer : Type 0
 ReplaysAnswer =
     (history : History) → IsLegal history → AllByRecursion IsReadBack history → AllByRecursion IsShortEvent history

@@ -1,4 +1,4 @@
--- Answers and entries are told by their lines: what is written of each is read as it.
+-- Answers and entries are known by their lines: what is written of each is read as it.
 use Rattle.std.specs.Prelude.{◌≡◌, true, Ok}
 use Rattle.serde_json.specs.Written.{compact_text}
 use Rattle.mtp_json.specs.Parse.{json_of}
@@ -10,13 +10,13 @@ use Rattle.pol_record.specs.Texts.{answer_data}
 use Rattle.pol_entries.specs.Answers.{answer_form}
 use Rattle.pol_retold.specs.Retold.{IsRetold}
 
--- what is written of an entry is read as that entry, where its answer is one that a program holds, and its event is
--- written
+-- What is written of an entry is read as that entry, where its answer is one that a program holds, and its event is
+-- written.
 abbrev pub EntriesAreRetold : Type 0
 EntriesAreRetold =
     (entry : PlainEntry) → is_in_range entry.answer ≡ true → IsWritten entry.event → IsRetold entry
 
--- what is written of an answer is exact, where it is one that a program holds
+-- What is written of an answer is exact, where it is one that a program holds.
 abbrev pub AnswersAreExact : Type 0
 AnswersAreExact = (answer : Answer) → is_in_range answer ≡ true → IsExact (answer_data answer)
 
@@ -27,6 +27,6 @@ pub record IsToldApart (answer : Answer) : Type 0 where
   pub value : answer_form (answer_data answer) ≡ Ok answer
   pub alone : (other : Answer) → is_in_range other ≡ true → answer_data other ≡ answer_data answer → other ≡ answer
 
--- each answer that a program holds is told apart by its line
+-- Each answer that a program holds is told apart by its line.
 abbrev pub AnswersAreRetold : Type 0
 AnswersAreRetold = (answer : Answer) → is_in_range answer ≡ true → IsToldApart answer

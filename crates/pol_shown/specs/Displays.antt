@@ -9,8 +9,8 @@ use Rattle.pol_history.specs.Modules.{description_of}
 use Rattle.pol_site.specs.Shown.{BoardWord, board_word, name_at}
 use Rattle.pol_site.specs.Sites.{PlainSite, PlainSiteModule}
 
--- which board it publishes on, the words that it published last, and at each word the name of its service, if there is
--- one
+-- a display: which board it publishes on, the words that it published last, and at each word the name of its service,
+-- if there is one
 pub record Displayed : Type 0 where
   pub board : TableId
   pub words : List ℕ

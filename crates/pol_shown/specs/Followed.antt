@@ -29,7 +29,7 @@ name_or (Some description) place name = name_at place (Some description)
 abbrev pub name_after : ℕ → PlainEvent → Option (List ℕ) → Option (List ℕ)
 name_after place event name = name_or (described event) place name
 
--- of the words below a bound it shows the history with the entry, and of the others the history before
+-- the display shows the history with the entry at the words below a bound, and the history before at the others
 abbrev pub ShowsBelow : ℕ → PlainSite → PlainEntry → History → Displayed → Type 0
 ShowsBelow bound site entry older display =
     ShowsAt site (λ word. if nat_lt word bound then entry ∷ older else older) display

@@ -24,7 +24,7 @@ pub(crate) fn shown_by(name: Option<Name>, event: &Event) -> Option<Option<State
     }
 }
 
-/// The name of the service at a place, after an event of its module: a description that the event brings tells it.
+/// The name of the service at a place, after an event of its module: a description that the event brings says it.
 pub(crate) fn name_after(place: usize, event: &Event, name: Option<Name>) -> Option<Name>
     ensures { result ≡ name_after place (plain_event event.now) name }
 {

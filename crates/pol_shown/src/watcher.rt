@@ -7,7 +7,7 @@ use std::marker::Model;
 use std::sync::Arc;
 
 /// A reader with its board. Contracts see which board it is, and at each word what was seen there last or what the
-/// reader was told of.
+/// reader was given.
 #[derive(Drop)]
 pub struct Watcher {
     board: Arc<Board>,
@@ -43,7 +43,7 @@ impl Watcher {
         }
     }
 
-    /// Reads every word of the board once. At no word anything older is found than what was seen there or told before.
+    /// Reads every word of the board once. At no word anything older is found than what was seen there or given before.
     /// It never waits.
     pub fn look(&mut self)
         ensures board { self.new.board ≡ self.old.board }

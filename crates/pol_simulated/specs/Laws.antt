@@ -61,7 +61,7 @@ CountsGiveCommanded =
     (service : List ℕ) (command : Command) →
     times_changed service command (past tag history) ≤ times_sent tag service command (story tag history)
 
--- A report of a service that a docked module in step gives is accepted, and tells a new state.
+-- A report of a service that a docked module in step gives is accepted, and has a new state.
 abbrev pub ReportsAreAccepted : Type 0
 ReportsAreAccepted =
     (site : PlainSite) (tag : List ℕ) (history : History) (sim : PlainSim) (at count : ℕ) (name : List ℕ)
@@ -71,7 +71,7 @@ ReportsAreAccepted =
     (answer_of history (report_event at tag (Service name control)) ≡ Done)
     × IsNewState (control_by name (past tag history)) control.state
 
--- A new simulator of a module of which nothing was told since docking is in step, and its changes are counted.
+-- A new simulator of a module to which nothing happened since docking is in step, and its changes are counted.
 abbrev pub FirstSimsAreInStep : Type 0
 FirstSimsAreInStep =
     (site : PlainSite) (tag : List ℕ) (past : History) (description : PlainDescription) (plan : PlainPlan)

@@ -1,4 +1,4 @@
--- The places of a history, from 0 for the oldest entry: what stands before a place, and the next command from it on.
+-- The places of a history, from 0 for the oldest entry: what comes before a place, and the next command from it on.
 use Rattle.std.specs.Prelude.{ℕ, suc, ◌+◌, ◌≡◌, ◌≤◌, nat_lt, nat_le, true, false, List, [], ◌∷◌, length, Option, Some}
 use Rattle.std.specs.Prelude.{None, option_map, if◌then◌else◌, ◌&&◌, is_some}
 use Rattle.std.specs.Option.{option_or}
@@ -11,7 +11,7 @@ use Rattle.pol_history.specs.Batches.{taken}
 use Rattle.pol_history.specs.Modules.{is_moving}
 use Rattle.pol_site.specs.Stories.{if_to, is_given, sent_to, story, times_sent, touches}
 
--- the entries that stand before a place
+-- the entries before a place
 abbrev pub before : ℕ → History → History
 before place [] = []
 before place (entry ∷ older) = if nat_lt (length older) place then entry ∷ before place older else before place older
@@ -28,7 +28,7 @@ found_at tag from place entry =
     then option_map (λ did. record { did = did; place = place }) (taken entry.answer)
     else None
 
--- the first of them from a place on: the next command to the module
+-- the next command to the module: the first one from a place on
 abbrev pub next_command : List ℕ → ℕ → History → Option Found
 next_command tag from [] = None
 next_command tag from (entry ∷ older) = option_or (next_command tag from older) (found_at tag from (length older) entry)

@@ -10,7 +10,7 @@ use Rattle.pol_site.specs.Plans.{begun_in, plan_by}
 use Rattle.pol_site.specs.Rules.{same_tag}
 use Rattle.pol_site.specs.Sites.{PlainSite, PlainSiteModule, PlainSiteExchange}
 
--- a plug brings the plan of the site's module with its tag
+-- A plug brings the plan of the site's module with its tag.
 abbrev pub PlugsBringPlans : Type 0
 PlugsBringPlans =
     (site : PlainSite) (older : History) (at : ℕ) (tag : List ℕ) (description : PlainDescription) (place : ℕ)
@@ -18,7 +18,7 @@ PlugsBringPlans =
     repeats_by same_tag site.modules ≡ false → slice_get site.modules place ≡ Some unit → unit.tag ≡ tag →
     plan_by site tag (past tag (record { event = plug at tag description; answer = Done } ∷ older)) ≡ Some unit.plan
 
--- the end of an exchange brings the plan of the site's exchange that was begun last
+-- The end of an exchange brings the plan of the site's exchange that was begun last.
 abbrev pub EndsBringPlans : Type 0
 EndsBringPlans =
     (site : PlainSite) (older : History) (at : ℕ) (tag : List ℕ) (ticket : ℕ) (description : PlainDescription)

@@ -1,4 +1,4 @@
--- How a simulated module stands to what was told of it.
+-- How a simulated module relates to what it reported.
 use Rattle.std.specs.Prelude.{ℕ, ℤ, ◌≡◌, ◌≤◌, Bool, false, List, [], ◌∷◌, map, find, Option, Some, None, option_map}
 use Rattle.std.specs.Prelude.{if◌then◌else◌}
 use Rattle.std.specs.Str.{bytes_eq}
@@ -23,14 +23,15 @@ use Rattle.pol_site.specs.Stories.{times_sent, controls_in}
 use Rattle.pol_site.specs.Plans.{plan_by, whole_in}
 use Rattle.pol_site.specs.Commanded.{changes_by}
 
--- ---- what was told
+-- ---- what was reported
 
 -- the event of a report, with its stamp
 abbrev pub report_event : ℕ → List ℕ → SimReport → PlainEvent
 report_event at tag (Service name control) = report at tag name control
 report_event at tag (Variable name value) = variable at tag name value
 
--- what a module told: its past, and in front of it the report that still waits to be applied; its stamp is no matter
+-- what a module reported: its past, and in front of it the report that still waits to be applied; its stamp is no
+-- matter
 abbrev pub told : List ℕ → Option SimReport → History → History
 told tag None past = past
 told tag (Some waiting) past = record { event = report_event 0 tag waiting; answer = Done } ∷ past
@@ -42,18 +43,18 @@ newest (first ∷ others) = Some first
 
 -- ---- one service, one drift
 
--- what the service told last is what it keeps; and where its state is told, that is what it reports now
+-- what the service reported last is what it keeps; and where its state was reported, that is what it reports now
 pub record IsTold (description : PlainDescription) (service : SimService) (controls : List ServiceControl) : Type 0
   where
     pub last : option_map (λ control. control.state) (newest controls) ≡ service.last
     pub now : is_untold service ≡ false → newest controls ≡ Some (control_now description service)
 
--- a service that the module hasn't got told nothing
+-- what the service of a module reported is what it keeps; a service that the module hasn't got reported nothing
 abbrev pub IsServiceTold : PlainDescription → Option SimService → List ServiceControl → Type 0
 IsServiceTold description None controls = controls ≡ []
 IsServiceTold description (Some service) controls = IsTold description service controls
 
--- what the service went through: what it told, and its state where that isn't told
+-- what the service went through: what it reported, and its state where that isn't reported
 abbrev pub gone_through : PlainDescription → SimService → List ServiceControl → List ServiceControl
 gone_through description service controls =
     if is_untold service then control_now description service ∷ controls else controls
@@ -85,7 +86,7 @@ is_same_drift drift other = bytes_eq drift.name other.name
 abbrev pub plan_in : PlainSim → PlainPlan
 plan_in sim = record { ticks = sim.ticks; run = sim.run; drifts = map drift_in sim.drifts }
 
--- what a past says of a module: what is docked and how it is planned, what each of its services told since, and the
+-- what a past says of a module: what is docked and how it is planned, what each of its services reported since, and the
 -- last value of each of its variables
 pub record Heard : Type 0 where
   pub description : Option PlainDescription
@@ -93,7 +94,7 @@ pub record Heard : Type 0 where
   pub controls : List ℕ → List ServiceControl
   pub value : List ℕ → Option ℤ
 
--- what it says of the module of a tag
+-- what a past says of the module of a tag
 abbrev pub heard : PlainSite → List ℕ → History → Heard
 heard site tag past =
     record {
@@ -104,7 +105,7 @@ heard site tag past =
     }
 
 -- the module is the one that is docked, as its site plans it; each of its services is where it may be; and what it
--- keeps is what was told
+-- keeps is what was reported
 pub record IsInStepWith (said : Heard) (description : PlainDescription) (plan : PlainPlan)
     (simulated : List SimService) (drifting : List SimDrift) : Type 0 where
   pub described : said.description ≡ Some description
@@ -117,7 +118,7 @@ pub record IsInStepWith (said : Heard) (description : PlainDescription) (plan : 
       (name : List ℕ) → IsServiceTold description (service_called name simulated) (said.controls name)
   pub drifts : (name : List ℕ) → IsDriftTold (drift_called name drifting) (said.value name)
 
--- the module of the simulator is, by a past; the place that its next tick looks at is no matter
+-- the module of the simulator is in step with a past; the place that its next tick looks at is no matter
 abbrev pub IsInStep : PlainSite → List ℕ → History → PlainSim → Type 0
 IsInStep site tag past sim =
     IsInStepWith (heard site tag past) sim.description (plan_in sim) sim.services sim.drifts
@@ -135,13 +136,13 @@ IsServiceCounted description name None controls sent = Unit {0}
 IsServiceCounted description name (Some service) controls sent =
     (command : Command) → changes_of description name command service controls ≤ sent command
 
--- each service did, where so many commands were sent to a service of a name
+-- each service went through at most as many changes by a command as were sent to a service of its name
 abbrev pub IsCountedBy : (List ℕ → Command → ℕ) → History → PlainSim → Type 0
 IsCountedBy sent past sim =
     (name : List ℕ) →
     IsServiceCounted sim.description name (service_called name sim.services) (controls_in name (since_docking past))
     (sent name)
 
--- the commands are those of the part of the story that the module looked at
+-- each service is counted against the commands in the part of the story that the module looked at
 abbrev pub IsCounted : List ℕ → History → History → PlainSim → Type 0
 IsCounted tag past looked sim = IsCountedBy (λ name command. times_sent tag name command looked) past sim

@@ -31,7 +31,7 @@ pub record IsDriftKept (description : PlainDescription) (drift : SimDrift) : Typ
   pub ranged : is_drift_ranged (drift_in drift) ≡ true
   pub risen : has_risen drift.from drift.last ≡ true
 
--- each drift of the module is
+-- each drift of the module is kept
 abbrev pub AreDriftsKept : PlainSim → Type 0
 AreDriftsKept sim = AllByRecursion (IsDriftKept sim.description) sim.drifts
 
@@ -50,11 +50,11 @@ FirstDriftsAreKept =
     is_plan_ranged plan ≡ true → is_plan_sound description plan ≡ true →
     AreDriftsKept (first_sim description plan)
 
--- A tick keeps them.
+-- A tick keeps the drifts of a module.
 abbrev pub TicksKeepDrifts : Type 0
 TicksKeepDrifts = (sim : PlainSim) → AreDriftsKept sim → AreDriftsKept (ticked sim)
 
--- So does a command.
+-- A command keeps the drifts of a module.
 abbrev pub CommandsKeepDrifts : Type 0
 CommandsKeepDrifts =
     (sim : PlainSim) (service : List ℕ) (command : Command) (procedure : ℕ) → AreDriftsKept sim →

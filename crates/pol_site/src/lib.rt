@@ -1,4 +1,4 @@
-//! The site that a plant runs by itself, and what the running plant promises. A site has modules with their
+//! Sites of plants that run by themselves, and what a running plant promises. A site has modules with their
 //! simulations, recipes, batches, exchanges and the commands of its desk. The crate defines what it means that a
 //! history follows a site, that every change has its command and that a site is settled, and what its status board
 //! shows.

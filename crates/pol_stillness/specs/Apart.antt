@@ -75,15 +75,15 @@ abbrev mutual
       ((role service : List ℕ) → uses each role service ≡ true → some_uses others role service ≡ false)
       × Disjoint others
 
--- the open steps of such a chart are of different services
+-- Where no parallel has two branches with a step of one role and service, no two open steps are of one.
 abbrev pub OpenStepsAreApart : Type 0
 OpenStepsAreApart = (tree : Tree) (n : ℕ) (marks : Marks) → Clear tree → AreApart (open_nodes tree n marks)
 
--- every valid chart is such a chart
+-- In no valid chart does a parallel have two branches with a step of one role and service.
 abbrev pub ValidChartsAreClear : Type 0
 ValidChartsAreClear = (chart : PlainChart) → IsValid chart → Clear chart.root
 
--- the entry comes of a step that stands in this phase
+-- the entry comes of a step that is in this phase
 abbrev pub is_due : Phase → LogEntry → Bool
 is_due idle (Start step tag service procedure) = true
 is_due started (Finish step tag service) = true
@@ -92,7 +92,7 @@ is_due finished (Reset step tag service) = true
 is_due was_reset (End step) = true
 is_due phase entry = false
 
--- The entry is of a step, and each active step of its role and service is this one, and stands so that the entry is
+-- The entry is of a step, and each active step of its role and service is this one, in a phase in which the entry is
 -- due.
 pub record IsAlone (chart : PlainChart) (log : List LogEntry) (seen : Sights) (entry : LogEntry) : Type 0 where
   pub step : PlainStep
@@ -104,7 +104,9 @@ pub record IsAlone (chart : PlainChart) (log : List LogEntry) (seen : Sights) (e
       placed.step.service ≡ step.service →
       (placed.step ≡ step) × (is_due (phase_after log placed.step.name) entry ≡ true)
 
--- the next entry of a step is so, in every valid chart after a partial run
+-- In every valid chart after a partial run the next entry of a step is due, and no other step of its role and service
+-- is active.
+-- active.
 abbrev pub NextStepsAreAlone : Type 0
 NextStepsAreAlone =
     (chart : PlainChart) (log : List LogEntry) (seen : Sights) (entry : LogEntry) → IsValid chart →
@@ -147,7 +149,7 @@ OwedIsNotSent =
     ≡ Entry entry →
     sent_by entry ≡ Some sent → sent.tag ≡ tag → sent.service ≡ service → ⊥
 
--- after a complete run no step is active
+-- After a complete run no step is active.
 abbrev pub CompleteRunsAreStill : Type 0
 CompleteRunsAreStill =
     (chart : PlainChart) (log : List LogEntry) → IsValid chart → IsComplete chart log → active_steps chart log ≡ []

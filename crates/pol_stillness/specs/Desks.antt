@@ -15,7 +15,7 @@ use Rattle.pol_site.specs.Following.{FollowsSite}
 abbrev pub IsAutomatic : ServiceControl → Type 0
 IsAutomatic control = (control.mode ≡ Automatic) × (control.origin ≡ External)
 
--- in a history that follows a site every service does, and so every command of the desk is refused
+-- every service takes its commands from recipes, and every command of the desk is refused
 pub record IsAutomaticPlant (history : History) : Type 0 where
   pub automatic :
       (tag service : List ℕ) (control : ServiceControl) → control_by service (past tag history) ≡ Some control →
@@ -24,6 +24,6 @@ pub record IsAutomaticPlant (history : History) : Type 0 where
       (at : ℕ) (tag service : List ℕ) (command : Command) →
       is_accepted (answer_of history (desk at tag service command)) ≡ false
 
--- every such history
+-- In every history that follows its site every service takes its commands from recipes, and the desk is refused.
 abbrev pub DesksAreRefused : Type 0
 DesksAreRefused = (site : PlainSite) (history : History) → FollowsSite site history → IsAutomaticPlant history

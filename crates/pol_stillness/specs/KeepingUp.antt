@@ -25,7 +25,7 @@ use Rattle.pol_simulated.specs.Values.{AreDriftsKept}
 use Rattle.pol_stillness.specs.Phases.{asked_in}
 use Rattle.pol_stillness.specs.Together.{AreServed, after_report}
 
--- The simulator looked at the commands before a place: it is in step with what it told, its drifts are kept, its
+-- The simulator looked at the commands before a place: it is in step with what it reported, its drifts are kept, its
 -- changes are counted against those commands, and its services are served from the place on; from there on the module
 -- stayed.
 pub record KeepsUp (site : PlainSite) (tag : List ℕ) (from : ℕ) (history : History) (sim : PlainSim) : Type 0 where
@@ -36,7 +36,7 @@ pub record KeepsUp (site : PlainSite) (tag : List ℕ) (from : ℕ) (history : H
   pub stays : StaysFrom tag from history
   pub within : from ≤ length history
 
--- A new simulator of a module that was docked as its site says, and of which nothing was told since, keeps up.
+-- A new simulator of a module that was docked as its site says, and to which nothing happened since, keeps up.
 abbrev pub FirstsKeepUp : Type 0
 FirstsKeepUp =
     (site : PlainSite) (tag : List ℕ) (history : History) (description : PlainDescription) (plan : PlainPlan) →
@@ -46,14 +46,14 @@ FirstsKeepUp =
     is_plan_unlike plan ≡ true → is_plan_sound description plan ≡ true →
     KeepsUp site tag (length history) history (first_sim description plan)
 
--- So it does after a tick, with what it reports.
+-- A simulator keeps up after a tick, with what it reports.
 abbrev pub TicksKeepUp : Type 0
 TicksKeepUp =
     (site : PlainSite) (tag : List ℕ) (at from : ℕ) (history : History) (sim : PlainSim) →
     KeepsUp site tag from history sim →
     KeepsUp site tag from (after_report at tag (tick_report sim) history) (ticked sim)
 
--- So it does when it looked at the next command, with nothing pending.
+-- A simulator keeps up when it looked at the next command, with nothing pending.
 abbrev pub LooksKeepUp : Type 0
 LooksKeepUp =
     (site : PlainSite) (tag : List ℕ) (from : ℕ) (history : History) (sim : PlainSim) (ahead : Found) (sent : Sent) →
@@ -62,14 +62,14 @@ LooksKeepUp =
     KeepsUp site tag (suc ahead.place) history
     (after_command sim (took sim sent.service sent.command (asked_in ahead.did)))
 
--- So it does from the end of the history on, when no command was left to look at.
+-- A simulator keeps up from the end of the history on, when no command was left to look at.
 abbrev pub IdlesKeepUp : Type 0
 IdlesKeepUp =
     (site : PlainSite) (tag : List ℕ) (from : ℕ) (history : History) (sim : PlainSim) →
     next_command tag from history ≡ None → KeepsUp site tag from history sim →
     KeepsUp site tag (length history) history sim
 
--- So it does when a batch sends it a command, in a history that follows its site.
+-- A simulator keeps up when a batch sends its module a command, in a history that follows its site.
 abbrev pub SendsKeepUp : Type 0
 SendsKeepUp =
     (site : PlainSite) (older : History) (at : ℕ) (batch : List ℕ) (did : LogEntry) (sent : Sent) (from : ℕ)
@@ -80,13 +80,13 @@ SendsKeepUp =
     sent_by did ≡ Some sent → KeepsUp site sent.tag from older sim →
     KeepsUp site sent.tag from (record { event = advance at batch; answer = Did did } ∷ older) sim
 
--- So it does after an entry that doesn't touch its module.
+-- A simulator keeps up after an entry that doesn't touch its module.
 abbrev pub OthersKeepUp : Type 0
 OthersKeepUp =
     (site : PlainSite) (tag : List ℕ) (from : ℕ) (older : History) (entry : PlainEntry) (sim : PlainSim) →
     touches tag entry ≡ false → KeepsUp site tag from older sim → KeepsUp site tag from (entry ∷ older) sim
 
--- Where it keeps up, each of its module's changes has its command.
+-- Where a simulator keeps up, each change of its module has its command.
 abbrev pub KeptUpIsCommanded : Type 0
 KeptUpIsCommanded =
     (site : PlainSite) (tag : List ℕ) (from : ℕ) (history : History) (sim : PlainSim) →

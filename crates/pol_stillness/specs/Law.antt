@@ -16,7 +16,7 @@ use Rattle.pol_site.specs.Commanded.{IsCommanded}
 use Rattle.pol_stillness.specs.Apart.{IsOwed}
 use Rattle.pol_stillness.specs.Plain.{is_plain_command}
 
--- a service with an unanswered command is owed a report by an open batch
+-- A service with an unanswered command is owed a report by an open batch.
 abbrev pub UnansweredAreOwed : Type 0
 UnansweredAreOwed =
     (site : PlainSite) (history : History) →
@@ -33,7 +33,7 @@ pub record IsSentStill (older : History) (sent : Sent) : Type 0 where
   pub answered : is_answered sent.tag (story sent.tag older) sent.service ≡ true
   pub plain : is_plain_command sent.command ≡ true
 
--- every command of every plant that follows its site
+-- Every command of a plant that follows its site goes to a service that is still, its earlier commands all answered.
 abbrev pub CommandsFindServicesStill : Type 0
 CommandsFindServicesStill =
     (site : PlainSite) (older : History) (entry : PlainEntry) (sent : Sent) →

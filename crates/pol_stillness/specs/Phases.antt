@@ -1,5 +1,5 @@
--- How a simulated service stands to the commands that were sent to it: nothing is left to look at, or one command that
--- it takes.
+-- How far a simulated service is with the commands that were sent to it: nothing is left to look at, or one command
+-- that it takes.
 use Rattle.std.specs.Prelude.{ℕ, ◌≡◌, ◌&&◌, not, Bool, true, false, List, ◌∷◌, Option, Some, None, is_some}
 use Rattle.std.specs.Prelude.{if◌then◌else◌}
 use Rattle.mtp_codes.specs.declared.command.Command.{Command}
@@ -28,7 +28,7 @@ abbrev pub asked_in : LogEntry → ℕ
 asked_in (Start step tag service procedure) = procedure
 asked_in _ = 0
 
--- the service changed by a command that it took, and hasn't told it
+-- the service changed by a command that it took, and hasn't reported that
 abbrev pub is_changed : SimService → Bool
 is_changed service = is_untold service && is_some service.last
 
@@ -37,17 +37,17 @@ pub record Wanted : Type 0 where
   pub procedure : ℕ
   pub answered : Bool
 
--- what it wants of the service of a name
+-- what a story wants of the service of a name
 abbrev pub wanted : List ℕ → List ℕ → History → Wanted
 wanted tag name told = record { procedure = procedure_started tag name told; answered = is_answered tag told name }
 
--- It looked at every command: it runs the procedure that was started last, and a command is unanswered exactly where it
--- took it and hasn't told.
+-- The service looked at every command: it runs the procedure that was started last, and a command is unanswered exactly
+-- where it took it and hasn't reported.
 pub record IsSettled (asks : Wanted) (service : SimService) : Type 0 where
   pub runs : asks.procedure ≡ service.procedure
   pub answered : asks.answered ≡ not (is_changed service)
 
--- It is still, and will take the command of this entry; it then runs the procedure that was started last.
+-- The service is still, and will take the command of this entry; it then runs the procedure that was started last.
 pub record IsGiven (description : PlainDescription) (asks : Wanted) (service : SimService) (entry : LogEntry) : Type 0
   where
     pub sent : Sent
@@ -60,16 +60,16 @@ pub record IsGiven (description : PlainDescription) (asks : Wanted) (service : S
     pub waits : (same_command sent.command Complete && runs_through description service) ≡ false
     pub runs : procedure_after description service sent.command (asked_in entry) ≡ Some asks.procedure
 
--- how it stands, by the command that it hasn't looked at, if there is one
+-- the phase of a service, by the command that it hasn't looked at, if there is one
 abbrev pub IsPhaseOf : PlainDescription → Wanted → SimService → Option LogEntry → Type 0
 IsPhaseOf description asks service None = IsSettled asks service
 IsPhaseOf description asks service (Some entry) = IsGiven description asks service entry
 
--- likewise, by what a story wants of it
+-- the phase of a service, by the command that it hasn't looked at, if there is one, and by a story
 abbrev pub IsPhase : PlainDescription → List ℕ → History → SimService → Option LogEntry → Type 0
 IsPhase description tag told service ahead = IsPhaseOf description (wanted tag service.name told) service ahead
 
--- what was told after a tick that looked at the service
+-- what was reported after a tick that looked at the service
 abbrev pub told_after : PlainDescription → List ℕ → ℕ → SimService → History → History
 told_after description tag limit service told =
     if is_reported description limit service
@@ -79,7 +79,7 @@ told_after description tag limit service told =
     } ∷ told
     else told
 
--- A tick keeps how it stands; what it reports is due; and with a command ahead it reports nothing.
+-- A tick keeps the phase of a service; what it reports is due; and with a command ahead it reports nothing.
 pub record TickKeepsPhase (description : PlainDescription) (tag : List ℕ) (limit : ℕ) (service : SimService)
     (told : History) (ahead : Option LogEntry) : Type 0 where
   pub phase :
@@ -90,7 +90,7 @@ pub record TickKeepsPhase (description : PlainDescription) (tag : List ℕ) (lim
       control_now description (service_ticked description limit service)
       ≡ control_due tag service.name past told (service_ticked description limit service).state
 
--- Every tick does so.
+-- Every tick keeps the phase of a service that it looks at.
 abbrev pub TicksKeepPhases : Type 0
 TicksKeepPhases =
     (description : PlainDescription) (tag : List ℕ) (limit : ℕ) (service : SimService) (told : History)

@@ -48,7 +48,7 @@ is_plain_answer (Did entry) = is_some (chart_entry entry)
 is_plain_answer (Closed outcome) = is_completed_outcome outcome
 is_plain_answer _ = true
 
--- every service is in such a state, every answer is so, and no batch is frozen
+-- every service is in a state of a plain run, every answer is one of plain runs, and no batch is frozen
 pub record IsPlain (history : History) : Type 0 where
   pub controls :
       (tag service : List ℕ) (control : ServiceControl) → control_by service (past tag history) ≡ Some control →
@@ -56,7 +56,7 @@ pub record IsPlain (history : History) : Type 0 where
   pub answers : AllByRecursion (λ entry. is_plain_answer entry.answer ≡ true) history
   pub thawed : (batch : List ℕ) → is_frozen history batch ≡ false
 
--- every plant that follows its site, each change having its command
+-- Every plant that follows its site is plain, where each change has its command.
 abbrev pub PlantsArePlain : Type 0
 PlantsArePlain =
     (site : PlainSite) (history : History) → IsLegal history → FollowsSite site history → IsCommanded history →

@@ -1,4 +1,4 @@
--- A docked module has a plan: the site tells how it is simulated.
+-- A docked module has a plan: the site says how it is simulated.
 use Rattle.std.specs.Prelude.{ℕ, ◌≡◌, List, Some}
 use Rattle.mtp_sim.specs.Sims.{PlainPlan}
 use Rattle.pol_history.specs.Looking.{History, past}
@@ -8,7 +8,7 @@ use Rattle.pol_site.specs.Following.{FollowsSite}
 use Rattle.pol_site.specs.Plans.{plan_by}
 use Rattle.pol_site.specs.Sites.{PlainSite}
 
--- in every legal history that follows its site each docked tag has a plan
+-- In every legal history that follows its site each docked tag has a plan.
 abbrev pub DockedArePlanned : Type 0
 DockedArePlanned =
     (site : PlainSite) (history : History) (tag : List ℕ) (count : ℕ) → IsLegal history → FollowsSite site history

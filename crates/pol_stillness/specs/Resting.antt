@@ -21,7 +21,7 @@ RestsAreSettled =
     next_command tag from history ≡ None → is_at_rest sim ≡ true →
     is_settled_module site history tag ≡ true
 
--- Where it keeps up and is settled, no command is left to look at and it is at rest.
+-- Where a docked module keeps up and is settled, no command is left to look at and it is at rest.
 abbrev pub SettledRest : Type 0
 SettledRest =
     (site : PlainSite) (tag : List ℕ) (from count : ℕ) (history : History) (sim : PlainSim) →

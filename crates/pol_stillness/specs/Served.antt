@@ -1,4 +1,4 @@
--- How a simulated service stands in a history, whose commands it looks at one by one.
+-- How far a simulated service is in a history, whose commands it looks at one by one.
 use Rattle.std.specs.Prelude.{ℕ, suc, ◌≡◌, ◌≤◌, ◌&&◌, nat_le, true, false, List, [], ◌∷◌, length, Option, Some, None}
 use Rattle.std.specs.Prelude.{if◌then◌else◌}
 use Rattle.std.specs.List.{cons_option}
@@ -31,33 +31,33 @@ unlooked tag name from (entry ∷ older) =
     then cons_option (taken entry.answer) (unlooked tag name from older)
     else unlooked tag name from older
 
--- the one that is there, if one is
+-- the list of the entry that is there, if one is
 abbrev pub list_of : Option LogEntry → List LogEntry
 list_of None = []
 list_of (Some did) = did ∷ []
 
--- At most one command is ahead of the service, and it stands so, where these entries are left to look at and a story
--- wants this of it.
+-- At most one command is ahead of the service, and it is in the phase for that, where these entries are left to look at
+-- and a story wants this of it.
 pub record IsServedBy (description : PlainDescription) (left : List LogEntry) (asks : Wanted) (service : SimService) :
     Type 0 where
   pub ahead : Option LogEntry
   pub is_ahead : left ≡ list_of ahead
   pub phase : IsPhaseOf description asks service ahead
 
--- likewise, in a history from a place on
+-- the service is served in a history from a place on
 abbrev pub IsServed : PlainDescription → List ℕ → ℕ → History → SimService → Type 0
 IsServed description tag from history service =
     IsServedBy description (unlooked tag service.name from history) (wanted tag service.name (story tag history))
     service
 
--- A new service is so.
+-- A new service is served.
 abbrev pub FirstsAreServed : Type 0
 FirstsAreServed =
     (description : PlainDescription) (tag name : List ℕ) (from : ℕ) (history : History) →
     since_docking (story tag history) ≡ [] → length history ≤ from →
     IsServed description tag from history (first_service name)
 
--- An advance that commands it, in a history that follows its site.
+-- An advance that commands a service leaves it served, in a history that follows its site.
 abbrev pub SendsServe : Type 0
 SendsServe =
     (site : PlainSite) (description : PlainDescription) (service : SimService) (older : History) (at : ℕ)
@@ -71,7 +71,7 @@ SendsServe =
     IsServed description sent.tag from older service →
     IsServed description sent.tag from (record { event = advance at batch; answer = Did did } ∷ older) service
 
--- An entry that doesn't command it, nor reports it, nor moves its module.
+-- An entry that doesn't command a service, nor report it, nor move its module, leaves it served.
 abbrev pub OthersServe : Type 0
 OthersServe =
     (description : PlainDescription) (tag : List ℕ) (service : SimService) (older : History) (entry : PlainEntry)
@@ -82,7 +82,7 @@ OthersServe =
     × ((d : Option PlainDescription) → started_in tag service.name d (taken entry.answer) ≡ None)) →
     IsServed description tag from older service → IsServed description tag from (entry ∷ older) service
 
--- A tick that looks at it, with its report, if it gives one.
+-- A tick that looks at a service leaves it served, with its report, if it gives one.
 abbrev pub TicksServe : Type 0
 TicksServe =
     (description : PlainDescription) (tag : List ℕ) (service : SimService) (older : History) (at limit from : ℕ) →
@@ -96,7 +96,7 @@ TicksServe =
     else older)
     (service_ticked description limit service)
 
--- Its module looks at the next command: the service takes it, where it is its own, and else stays.
+-- The module of a service looks at the next command: the service takes it, where it is its own, and else stays.
 pub record IsLooked (description : PlainDescription) (tag : List ℕ) (history : History) (service : SimService)
     (ahead : Found) : Type 0 where
   pub other :
@@ -115,7 +115,7 @@ LooksServe =
     next_command tag from history ≡ Some ahead → IsServed description tag from history service →
     IsLooked description tag history service ahead
 
--- At rest every command was answered: each service is told and so, and none is left to look at.
+-- Every command was answered at rest: where the state of each service was reported, and no command is left to look at.
 abbrev pub RestIsAnswered : Type 0
 RestIsAnswered =
     (site : PlainSite) (history : History) (tag : List ℕ) (sim : PlainSim) (from : ℕ) →

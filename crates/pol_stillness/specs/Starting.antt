@@ -14,7 +14,7 @@ use Rattle.pol_history.specs.Following.{sights_by}
 use Rattle.pol_history.specs.Runs.{IsLegal, IsOrderly}
 use Rattle.chart_cursor.specs.Logs.{chart_entries}
 
--- a simulated module has the procedure that a start asks for, in every legal history
+-- In every legal history a simulated module has the procedure that a start asks for.
 abbrev pub StartsExist : Type 0
 StartsExist =
     (history : History) (batch : List ℕ) (begun : Started) (chart : PlainChart) (step tag service : List ℕ)

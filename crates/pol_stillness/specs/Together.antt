@@ -1,4 +1,4 @@
--- All services of a simulated module, as they stand in a history.
+-- All services of a simulated module in a history.
 use Rattle.std.specs.Prelude.{ℕ, suc, ◌≡◌, false, true, List, ◌∷◌, Option, Some, None, is_some}
 use Rattle.mtp_codes.specs.Repeats.{repeats_by}
 use Rattle.mtp_desc.specs.Plain.{PlainDescription}
@@ -26,7 +26,7 @@ abbrev pub after_report : ℕ → List ℕ → Option SimReport → History → 
 after_report at tag None history = history
 after_report at tag (Some told) history = record { event = report_event at tag told; answer = Done } ∷ history
 
--- A tick with its report keeps them so.
+-- A tick with its report leaves all services served.
 abbrev pub TicksServeAll : Type 0
 TicksServeAll =
     (sim : PlainSim) (tag : List ℕ) (at from : ℕ) (history : History)
@@ -34,7 +34,7 @@ TicksServeAll =
     AreServed sim.description tag from history sim.services →
     AreServed sim.description tag from (after_report at tag (tick_report sim) history) (ticked sim).services
 
--- So does looking at the next command, and a service that the module has takes it.
+-- Looking at the next command leaves all services served, and a service that the module has takes it.
 abbrev pub LooksServeAll : Type 0
 LooksServeAll =
     (sim : PlainSim) (tag : List ℕ) (history : History) (ahead : Found) (from : ℕ) (sent : Sent) →

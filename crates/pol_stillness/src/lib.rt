@@ -24,7 +24,8 @@ pub fn commands_find_services_still()
     ensures { CommandsFindServicesStill }
 {}
 
-/// Where a simulator keeps up, no command is left to look at and it is at rest, the module is settled.
+/// Where the simulator of a docked module keeps up, no command is left to look at and it is at rest, the module is
+/// settled.
 pub fn rests_are_settled()
     ensures { RestsAreSettled }
 {}

@@ -37,7 +37,7 @@ room_recorded history event room = recorded_with_room history event (lt-leb LONG
 abbrev done : PlainEvent → Result PlainEvent LineFault
 done x = Ok x
 
--- it gives one event
+-- reading an event gives one event
 ok_same : (x y : PlainEvent) → done x ≡ done y → x ≡ y
 ok_same x y same = cc
 

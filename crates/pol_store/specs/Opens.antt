@@ -5,11 +5,11 @@ use Rattle.pol_kept.specs.declared.opening.OpenFault.{OpenFault}
 use Rattle.pol_store.specs.Work.{plant_work}
 
 -- the disk is no store: it reads as more than one byte, no list of at most 200,000 events stands for these bytes, and
--- the first record that isn't one stands at this place
+-- the first record that isn't one is at this place
 abbrev pub IsNoStore : List ℕ → ℕ → Type 0
 IsNoStore image place = of_items.IsNoStore plant_work image place
 
--- what a fault says, where the disk tells its bytes still: of NotAStore, that no call of the disk failed; of Memory,
+-- what a fault says, where the disk gives its bytes still: of NotAStore, that no call of the disk failed; of Memory,
 -- that reads give what they gave
 abbrev pub Tells : OpenFault → Option (List ℕ) → Option (List ℕ) → ℕ → ℕ → Type 0
 Tells fault seen seen' faults faults' = of_items.Tells plant_work fault seen seen' faults faults'

@@ -12,8 +12,8 @@ use Rattle.pol_store.specs.Keeping.{StoreState}
 abbrev pub Closes : {D : Type 0} → (D → ℕ) → StoreState D → StoreState D → Type 0
 Closes faults old new = (old.closed ≡ false) × (new.closed ≡ true) × Rose (faults old.disk) (faults new.disk)
 
--- Memory changes nothing: the entries, those of them that wait, and the disk are as before; Disk comes where the disk
--- failed; Closed comes exactly of a closed store
+-- what a refusal of an event says: Memory changes nothing: the entries, those of them that wait, and the disk are as
+-- before; Disk comes where the disk failed; Closed comes exactly of a closed store
 abbrev pub Refuses : {D : Type 0} → (D → ℕ) → StoreState D → StoreState D → Event → KeptRefusal Event → Type 0
 Refuses faults old new event (of_event.Memory back) =
     (back ≡ event) × (old.closed ≡ false) × (new.closed ≡ false) × (new.plant.entries ≡ old.plant.entries)
@@ -21,7 +21,7 @@ Refuses faults old new event (of_event.Memory back) =
 Refuses faults old new event of_event.Disk = Closes faults old new
 Refuses faults old new event (of_event.Closed back) = (back ≡ event) × (old.closed ≡ true) × (new ≡ old)
 
--- the same of the events that wait, for which no memory is needed
+-- what a refusal of the events that wait says: Disk comes where the disk failed, Closed exactly of a closed store
 abbrev pub Fails : {D : Type 0} → (D → ℕ) → StoreState D → StoreState D → CommitFault → Type 0
 Fails faults old new of_group.Disk = Closes faults old new
 Fails faults old new of_group.Closed = (old.closed ≡ true) × (new ≡ old)

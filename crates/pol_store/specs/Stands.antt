@@ -13,7 +13,7 @@ AreTextsOf events texts = of_items.AreTextsOf plant_work [] events texts
 abbrev pub StandsFor : List PlainEvent → List ℕ → Type 0
 StandsFor events image = of_items.StandsFor plant_work events image
 
--- the text is that of the first of these events, and what stands behind it stands for the others
+-- the text is that of the first of these events, and what follows it stands for the others
 abbrev pub HasFirst : List ℕ → List ℕ → List PlainEvent → Type 0
 HasFirst text behind [] = ⊥
 HasFirst text behind (event ∷ events) = (text ≡ event_text event) × StandsFor events behind
@@ -22,6 +22,6 @@ HasFirst text behind (event ∷ events) = (text ≡ event_text event) × StandsF
 abbrev pub StandsWithAllOrNone : List PlainEvent → List PlainEvent → List ℕ → Type 0
 StandsWithAllOrNone events group image = of_items.StandsWithAllOrNone plant_work events group image
 
--- no list of at most 200,000 events stands for it
+-- no list of at most 200,000 events stands for the image
 abbrev pub StandsForNone : List ℕ → Type 0
 StandsForNone image = of_items.StandsForNone plant_work image

@@ -18,7 +18,7 @@ pub record IsTextOf (event : PlainEvent) (text : List ℕ) : Type 0 where
   pub reads : event_of text ≡ Ok event
 
 -- The events of a history are answered and recorded as ever; all are kept but one that is answered HistoryFull, and
--- each as the text that a journal's line has for it, whatever stands before it.
+-- each as the text that a journal's line has for it, whatever comes before it.
 abbrev pub plant_work : ChronicleWork History PlainEvent Answer
 plant_work = record {
   items = events_of;

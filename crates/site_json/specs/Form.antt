@@ -48,7 +48,7 @@ module_of value =
     nothing_but (codes "tag desc sim") value >>= λ _.
     Ok (record { tag = tag; description = description; plan = plan })
 
--- a recipe: that no role is named twice is asked when all else of it was read
+-- a recipe: that no role is named twice is checked when all else of it was read
 unfoldable pub recipe_of : Data → ReadResult PlainSiteRecipe
 recipe_of value =
     object_here value >>= λ _.
@@ -59,7 +59,7 @@ recipe_of value =
     chart_from roles root >>= λ chart.
     Ok (record { recipe = named; chart = chart })
 
--- a batch: that no role is held and watched is asked when all else of it was read
+-- a batch: that no role is held and watched is checked when all else of it was read
 unfoldable pub batch_of : Data → ReadResult PlainSiteBatch
 batch_of value =
     object_here value >>= λ _.
@@ -93,7 +93,7 @@ desk_of value =
     nothing_but (codes "tag service CommandOp after") value >>= λ _.
     Ok (record { tag = tag; service = service; command = command; after = after })
 
--- a site: its own rules are asked when all of it was read
+-- a site: its own rules are checked when all of it was read
 unfoldable pub site_in : Data → ReadResult PlainSite
 site_in value =
     object_here value >>= λ _.

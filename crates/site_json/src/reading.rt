@@ -23,7 +23,7 @@ use pol_site::{
 use serde_json::Value;
 use std::alloc::Global;
 
-// Asks a rule of each item of the list at a key.
+// Checks a rule on each item of the list at a key.
 #[tactic(auto, using(mtp_json::proofs::Each::gives_below))]
 fn ask_under<T: OwnRule>(
     alloc: Global,
@@ -37,7 +37,7 @@ fn ask_under<T: OwnRule>(
     under(key, ask_each(alloc, rule, items))
 }
 
-// Asks the own rules of the site that has these members.
+// Checks the own rules of the site that has these members.
 #[tactic(auto, unfolding(crate::specs::Ruled::ruled_site))]
 fn ask_all(
     alloc: Global,

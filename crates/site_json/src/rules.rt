@@ -32,12 +32,12 @@ pub(crate) trait OwnRule {
 
     ghost rule: { Self → Form → ReadResult ⊤ };
 
-    /// Asks the rule of an item.
+    /// Checks the rule on an item.
     fn ask(&self, alloc: Global, item: &Self::Item) -> Result<(), JsonRefusal>
         ensures { ReadsAs (λ unit. unit) result (rule self.now (plain item.now)) };
 }
 
-/// Asks the rule of each item, from first to last; a fault has the place in front of its path.
+/// Checks the rule on each item, from first to last; a fault has the place in front of its path.
 pub(crate) fn ask_each<T: OwnRule>(
     alloc: Global,
     rule: &T,
