@@ -64,7 +64,7 @@ pub fn answer_event(
             name,
             value,
             ..
-        } => Ok(variable(modules, *tag, *name, *value)),
+        } => Ok(variable(modules, *tag, *name, value)),
         Event::Recipe {
             recipe: name,
             chart,

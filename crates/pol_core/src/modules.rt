@@ -84,6 +84,7 @@ pub fn unplug(modules: &mut Table<Slot>, tag: Name) -> Answer
 }
 
 /// A service reports.
+#[inline(always)]
 pub fn report(
     modules: &mut Table<Slot>,
     tag: Name,
@@ -99,12 +100,13 @@ pub fn report(
 }
 
 /// A variable is reported.
-pub fn variable(modules: &mut Table<Slot>, tag: Name, name: Name, value: Value) -> Answer
-    ensures answered { ModuleAnswers (λ at. variable at tag name value) modules.old result modules.new }
+#[inline(always)]
+pub fn variable(modules: &mut Table<Slot>, tag: Name, name: Name, value: &Value) -> Answer
+    ensures answered { ModuleAnswers (λ at. variable at tag name value.now) modules.old result modules.new }
 {
     match modules.get_mut(tag) {
         None => Answer::Refused(Rule::NoModule { tag }),
-        Some(slot) => done_or_refused(slot.variable(name, value)),
+        Some(slot) => done_or_refused(slot.variable(name, *value)),
     }
 }
 

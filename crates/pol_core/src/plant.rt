@@ -75,18 +75,16 @@ impl Model for Plant {
 }
 
 // Puts an entry at the end of a history that has room for it.
+#[inline(always)]
 fn append(history: &mut Vec<Entry>, event: Event, answer: &Answer)
     requires { vec_len history.old < vec_capacity history.old }
     ensures items { history.new.items ≡ history.old.items ++ record { event = event; answer = answer.now } ∷ [] }
     ensures room { vec_capacity history.old ≤ vec_capacity history.new }
 {
-    let entry = Entry {
+    history.push_reserved(Entry {
         event,
         answer: *answer,
-    };
-    if history.push(entry).is_err() {
-        unreachable!();
-    }
+    });
 }
 
 // Ok, unless a rule refuses, or the history is full.

@@ -69,9 +69,7 @@ fn append(names: &mut Vec<Option<Name>>, by: Option<Name>)
     requires { vec_len names.old < vec_capacity names.old }
     ensures { names.new.items ≡ names.old.items ++ by ∷ [] }
 {
-    if names.push(by).is_err() {
-        unreachable!();
-    }
+    names.push_reserved(by);
 }
 
 impl Ledger {

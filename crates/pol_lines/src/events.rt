@@ -7,14 +7,15 @@ ghost use Rattle.event_json.specs.Forms.{tag_in, variable_in};
 ghost use Rattle.pol_lines.specs.Flat.{flat_data};
 
 use crate::fields::{
-    command_at, count_at, kind_at, mode_at, name_at, origin_at, scalar_at, state_at,
+    command_at, count_at, kind_at, leaf_at, mode_at, name_at, origin_at, state_at, text_value,
 };
 use crate::flat::Member;
 use crate::key::Key;
 use crate::kinds::only;
+use crate::leaf::Leaf;
 use event_json::EventKind;
 use mtp_assembly::ServiceControl;
-use mtp_codes::Name;
+use mtp_codes::{Name, Value};
 use pol_events::Event;
 
 /// A variable's value by its form.
@@ -29,13 +30,27 @@ fn read_variable(members: &[Member]) -> Option<Event>
     let at = count_at(members, Key::At, 0, u64::MAX)?;
     let tag = name_at(members, Key::Tag)?;
     let name = name_at(members, Key::Name)?;
-    let value = scalar_at(members, Key::Value)?;
-    Some(Event::Variable {
-        at,
-        tag,
-        name,
-        value,
-    })
+    // Each form of a value goes into its event at once: so no room for the longest text is moved for a number.
+    match leaf_at(members, Key::Value)? {
+        Leaf::Text(bytes) => Some(Event::Variable {
+            at,
+            tag,
+            name,
+            value: text_value(bytes)?,
+        }),
+        Leaf::Whole(number) => Some(Event::Variable {
+            at,
+            tag,
+            name,
+            value: Value::Whole(number),
+        }),
+        Leaf::Bit(bit) => Some(Event::Variable {
+            at,
+            tag,
+            name,
+            value: Value::Bit(bit),
+        }),
+    }
 }
 
 /// The five fields of what a service reports, by their form.

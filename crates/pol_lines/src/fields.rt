@@ -21,7 +21,7 @@ use mtp_codes::{Command, Mode, Name, Origin, Reading, Short, State, Value};
 
 /// The value at a key: the last one, where the key occurs more than once.
 #[inline(always)]
-fn leaf_at<'a>(members: &[Member<'a>], key: Key) -> Option<Leaf<'a>>
+pub fn leaf_at<'a>(members: &[Member<'a>], key: Key) -> Option<Leaf<'a>>
     ensures { option_map leaf_data result ≡ get (key_text key) (flat_data members.now) }
 {
     for i in (0..members.len()).rev() {
@@ -174,7 +174,7 @@ pub fn kind_at(members: &[Member], key: Key) -> Option<EventKind>
 
 /// The text as a value of a variable.
 #[inline(never)]
-fn text_value(bytes: &[u8]) -> Option<Value>
+pub fn text_value(bytes: &[u8]) -> Option<Value>
     ensures { IfSome result (λ found. scalar (string bytes.now) ≡ Ok found) }
 {
     match std::str::from_utf8(bytes) {

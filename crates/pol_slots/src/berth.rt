@@ -95,6 +95,7 @@ impl Berth {
     /// Keeps what a service of the docked module reports, where its state may follow the one before.
     ///
     /// `NoService` where the module has no such service, `NotAnEdge` where the state may not follow; then all stays.
+    #[inline(always)]
     pub(crate) fn report(&mut self, service: Name, control: ServiceControl) -> Result<(), Rule>
         requires { ticket_in self.old ≡ None }
         ensures answer { result ≡ done_unless (report_rule control.state
@@ -110,6 +111,7 @@ impl Berth {
     }
 
     /// Keeps the value that a variable of the docked module is reported with.
+    #[inline(always)]
     pub(crate) fn report_value(&mut self, name: Name, value: Value)
         requires { ticket_in self.old ≡ None }
         ensures docked { ticket_in self.new ≡ None }

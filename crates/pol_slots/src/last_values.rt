@@ -75,6 +75,7 @@ impl<T: Copy + Drop> LastValues<T> {
     }
 
     /// Puts a value as the last one of the name, if it is one of these.
+    #[inline(always)]
     pub(crate) fn put(&mut self, name: Name, value: T)
         ensures { Puts name value self.old self.new }
     {
@@ -98,6 +99,7 @@ impl LastValues<ServiceControl> {
     /// Puts what a service reports as its last control, where its state may follow the one before.
     ///
     /// `NoService` where the service isn't one of these, `NotAnEdge` where the state may not follow; then all stays.
+    #[inline(always)]
     pub(crate) fn report(&mut self, service: Name, control: ServiceControl) -> Result<(), Rule>
         ensures answer { result ≡ done_unless (report_rule control.state (lookup (bytes_eq service) self.old)) }
         ensures reported { OnOk result (Puts service control self.old self.new) }

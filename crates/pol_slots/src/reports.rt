@@ -51,6 +51,7 @@ impl Slot {
     /// service; `NotAnEdge` where the state is neither the one reported last since docking nor one to which an edge
     /// leads from it. After a refusal the slot is unchanged.
     #[tactic(auto, unfolding(crate::specs::Slots::last_control, crate::specs::Slots::last_value))]
+    #[inline(always)]
     pub fn report(&mut self, service: Name, control: ServiceControl) -> Result<(), Rule>
         ensures answer { result ≡ done_unless (first_of (report_rules (slot_tag self.old) service control.state
             (slot_ticket self.old) (Some (slot_description self.old)) (last_control self.old service))) }
@@ -69,6 +70,7 @@ impl Slot {
     /// `InExchange` with the tag and the ticket while the module is away; `NoVariable` where its description lacks the
     /// variable; `WrongKind` and `OutOfRange` as `check_view` says of the value. After a refusal the slot is unchanged.
     #[tactic(auto, unfolding(crate::specs::Slots::last_control, crate::specs::Slots::last_value))]
+    #[inline(always)]
     pub fn variable(&mut self, name: Name, value: Value) -> Result<(), Rule>
         ensures answer { result ≡ done_unless (first_of (variable_rules (slot_tag self.old) name value
             (slot_ticket self.old) (Some (slot_description self.old)))) }

@@ -35,10 +35,7 @@ pub(crate) fn add_each(
 {
     watches.reserve(tags.len())?;
     for tag in tags {
-        let watch = Watch { tag: *tag, batch };
-        if watches.push(watch).is_err() {
-            unreachable!();
-        }
+        watches.push_reserved(Watch { tag: *tag, batch });
     }
     Ok(())
 }
