@@ -18,6 +18,8 @@ from checks.plants import LEAD, SHIFT, Running
 from checks.reading import STATION
 
 MANY, MOST_SECONDS = 48, 0.1
+# From so many entries on the plant's file is renewed; and after so many answers it is looked whether it has them.
+NEARLY_FULL, ANSWERS = 150_000, 500
 # A batch that never ends, and tests a value at each turn.
 ENDLESS = {"recipe": "endless", "roles": [{"role": "source", "type": "Doser", "version": "^1"}], "chart": {
     "loop": {"step": "dose", "role": "source", "service": "dose", "procedure": 1},
@@ -92,7 +94,7 @@ class Many(unittest.TestCase):
             self.assertEqual(plant.start(f"b{number}", "endless", source=f"D{number:02}"), {"done": True})
         seconds, watched = [], urllib.request.urlopen(f"http://127.0.0.1:{plant.port}/live?by={LEAD}", timeout=PATIENCE)
         self.addCleanup(watched.close)
-        end, count = time.monotonic() + 60 * reading.MINUTES, plant.live().told["entries"]
+        end, before, gone = time.monotonic() + 60 * reading.MINUTES, plant.live().told["entries"], []
         while time.monotonic() < end:
             for deed in ("freeze", "thaw"):
                 began = time.monotonic()
@@ -100,12 +102,23 @@ class Many(unittest.TestCase):
                 seconds.append(time.monotonic() - began)
                 watched.read1()
                 time.sleep(0.2)
+            if len(seconds) % ANSWERS == 0:
+                gone += self.renewed(plant)
         live = plant.live()
         late = statistics.quantiles(seconds, n=100)[-1]
-        per_second = (live.told["entries"] - count) / (60 * reading.MINUTES)
+        per_second = (live.told["entries"] + sum(gone) - before) / (60 * reading.MINUTES)
         print(f"{MANY} modules, {len(seconds)} answers: half within {statistics.median(seconds) * 1000:.0f} ms, "
-              f"99 of 100 within {late * 1000:.0f} ms; {per_second:.0f} entries a second, load {os.getloadavg()[0]:.1f} "
-              f"on {os.cpu_count()} processors")
+              f"99 of 100 within {late * 1000:.0f} ms; {per_second:.0f} entries a second, {len(gone)} renewals, load "
+              f"{os.getloadavg()[0]:.1f} on {os.cpu_count()} processors")
         self.assertEqual(live.alarms(), {})
         self.assertLess(late, MOST_SECONDS)
         self.assertTrue(pathlib.Path(plant.site.folder / "pol.plant").exists())
+
+    def renewed(self, plant):
+        """Has the plant's file renewed where it is nearly full, and gives how many entries are gone from it."""
+        entries = plant.live().told["entries"]
+        if entries < NEARLY_FULL:
+            return []
+        answer = plant.do("renew")
+        self.assertEqual(answer["station"], "renewed", answer)
+        return [entries - int(answer["why"])]
