@@ -29,11 +29,11 @@ returns-in-Some c = record {
       c.variable.result _ refl refl
       c.done_or_refused.ensures
       (ap done_or_refused c.variable.ensures.answer
-      ∙ variable_judged history at c.args.tag c.args.name c.args.value c.in-Some.slot.now room keeps)
+      ∙ variable_judged history at c.args.tag c.args.name c.args.value.now c.in-Some.slot.now room keeps)
       seats counted found
       (on_ok_weaker c.variable.result (λ reported.
       variable_keeps c.args.tag c.in-Some.slot.now c.variable.new.self
-      (past c.args.tag history) at c.args.tag c.args.name c.args.value _
+      (past c.args.tag history) at c.args.tag c.args.name c.args.value.now _
       c.variable.ensures.same_module c.variable.ensures.controls reported keeps) c.variable.ensures.reported)
       (on_err_weaker c.variable.result (λ values.
       unchanged_keeps c.args.tag c.in-Some.slot.now c.variable.new.self (past c.args.tag history)
