@@ -1,6 +1,4 @@
 """What the scripts that measure the program share: journals that are made once, and what one run takes."""
-import importlib.machinery
-import importlib.util
 import os
 import pathlib
 import subprocess
@@ -8,20 +6,14 @@ import sys
 import tempfile
 
 HERE = pathlib.Path(__file__).resolve().parent
+sys.path.insert(0, str(HERE.parent / "tools"))
+
+from scripts import script
+
 PROGRAM = HERE.parent / "crates" / "pol" / "out" / "pol"
 WORK = pathlib.Path(os.environ.get("POL_BENCH", tempfile.gettempdir() + "/pol-bench"))
-
-
-def front():
-    """tools/run, which runs the program for ./pol."""
-    loader = importlib.machinery.SourceFileLoader("front", str(HERE.parent / "tools" / "run"))
-    module = importlib.util.module_from_spec(importlib.util.spec_from_loader(loader.name, loader))
-    loader.exec_module(module)
-    return module
-
-
 # The environment in which ./pol runs the program.
-ENVIRONMENT = {**front().LARGE_PAGES, **os.environ}
+ENVIRONMENT = {**script("tools/run").LARGE_PAGES, **os.environ}
 
 
 def made(name, make):
