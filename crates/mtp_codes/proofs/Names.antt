@@ -1,13 +1,14 @@
 -- Names of the same bytes are one name, and digits may stand in a name.
-use Rattle.std.proofs.Common.{◌≡◌, ℕ, ◌≤◌, Bool, true, false, List, [], ◌∷◌, refl, sym, ◌∙◌, arith}
+use Rattle.std.proofs.Common.{◌≡◌, ℕ, ◌≤◌, Bool, true, false, List, [], ◌∷◌, take, refl, sym, ap, ◌∙◌, arith}
 use Rattle.std.specs.Int.{IsInRange}
 use Rattle.std.specs.List.{list_all}
 use Rattle.std.specs.Str.{bytes_eq}
 use Rattle.std.specs.Str.Parse.{AllDigits}
-use Rattle.std.proofs.lemmas.Bool.Decides.{nat_tests}
+use Rattle.std.proofs.lemmas.Bool.Decides.{nat_tests, same_from_decides}
 use Rattle.std.proofs.lemmas.Slice.Eq.{bytes_eq-Decides}
 use Rattle.std.proofs.lemmas.Str.Parse.{digit_from_value}
-use Rattle.mtp_codes.specs.Names.{is_name_byte}
+use Rattle.mtp_codes.specs.Names.{is_name_byte, IsKeptName}
+use Rattle.mtp_codes.specs.Padded.{padded, padded-used}
 
 -- names that compare as equal are one
 pub same_true : (one other : List ℕ) → bytes_eq one other ≡ true → one ≡ other
@@ -20,6 +21,24 @@ same_refl name = (bytes_eq-Decides name name).1 refl
 -- and so are names that are one
 pub same_name_is : (one other : List ℕ) → one ≡ other → bytes_eq one other ≡ true
 same_name_is one other = (bytes_eq-Decides one other).1
+
+-- names that take as many bytes as each other are one exactly where all the bytes that keep them are the same
+pub kept_same : (one other : List ℕ) (first second : ℕ) → IsKeptName one first → IsKeptName other second
+    → first ≡ second → bytes_eq one other ≡ bytes_eq (take first one) (take second other)
+kept_same one other first second kept beside long =
+    same_from_decides (bytes_eq one other) (bytes_eq (take first one) (take second other)) (bytes_eq-Decides one other)
+    (there, back)
+  where
+    there : bytes_eq (take first one) (take second other) ≡ true → one ≡ other
+    there same =
+        sym (padded-used 32 one first kept.padding)
+        ∙ ap (padded 32) (same_true (take first one) (take second other) same)
+        ∙ padded-used 32 other second beside.padding
+
+    back : one ≡ other → bytes_eq (take first one) (take second other) ≡ true
+    back same =
+        same_name_is (take first one) (take second other)
+        (ap (λ long. take long one) long ∙ ap (take second) same)
 
 -- a name that isn't another's is not that other's
 pub apart_back : (one other : List ℕ) → bytes_eq one other ≡ false → bytes_eq other one ≡ false
