@@ -1,19 +1,19 @@
 -- A flat line is at fault where what is kept of it is.
 use Rattle.std.proofs.Common.{◌≡◌, ℕ, List, [], Bool, true, false, Option, Some, None, Ok, Err, refl, ap}
 use Rattle.std.proofs.Common.{sym, subst, ◌∙◌, arith, codes}
-use Rattle.std.specs.Prelude.{option_map, ⊤}
-use Rattle.std.specs.Str.{IsUtf8}
+use Rattle.std.specs.Prelude.{if◌then◌else◌, option_map, ⊤}
+use Rattle.std.specs.Str.{IsUtf8, is_utf8}
 use Rattle.serde_json.specs.Data.{Data, Members, array, boolean, float, negative, null, number, object, string}
 use Rattle.serde_json.specs.Data.{unsigned}
 use Rattle.serde_json.specs.Find.{get}
 use Rattle.serde_json.specs.Read.{read}
 use Rattle.mtp_codes.specs.Codes.{command_codes, state_codes}
 use Rattle.mtp_codes.specs.Numbers.{greatest_u32, greatest_u64}
-use Rattle.mtp_json.specs.declared.fault.FaultKind.TheVariants.{WrongKind}
+use Rattle.mtp_json.specs.declared.fault.FaultKind.TheVariants.{NotJson, WrongKind}
 use Rattle.mtp_json.specs.declared.fault.JsonFault.{JsonFault}
 use Rattle.mtp_json.specs.Form.{field, nothing_but, object_here, present, required}
 use Rattle.mtp_json.specs.Leaf.{code, count, name, scalar, word}
-use Rattle.mtp_json.specs.Parse.{json_of}
+use Rattle.mtp_json.specs.Parse.{json_of, or_not_json}
 use Rattle.mtp_json.specs.ReadResult.{Finding, ReadResult, ◌>>=◌, here, under}
 use Rattle.mtp_json.proofs.Utf8.{utf8_is}
 use Rattle.pol_events.specs.Events.{PlainEvent, abandon, advance, desk, exchange_begin, exchange_cancel, report}
@@ -29,9 +29,11 @@ use Rattle.event_json.specs.Guarded.{PlainGuarded, guarded_by, guarded_desk_in, 
 use Rattle.event_json.specs.Lines.{event_of}
 use Rattle.event_json.specs.Version1.{event_by_version_1, event_in_version_1, event_of_version_1}
 use Rattle.event_json.specs.Words.{kind_words, mode_words, origin_words}
+use Rattle.pol_lines.specs.declared.parts.Held.{Held}
+use Rattle.pol_lines.specs.declared.parts.Held.TheVariants.{Text, Whole, Bit, Other}
 use Rattle.pol_lines.specs.declared.parts.Part.{Part}
 use Rattle.pol_lines.specs.Faults.{IsFault}
-use Rattle.pol_lines.specs.Parts.{BeginsHeld, IsOfParts, parts_data, simple, simple_members}
+use Rattle.pol_lines.specs.Parts.{BeginsHeld, IsOfParts, held_data, parts_data, simple, simple_members}
 use Rattle.pol_lines.specs.Spots.{at_key, batch_judged, cancel_judged, desk_judged, fault_of, judged, judged_by}
 use Rattle.pol_lines.specs.Spots.{kind_judged, line_judged, named_desk_judged, report_judged, tag_judged}
 use Rattle.pol_lines.specs.Spots.{variable_judged}
@@ -459,16 +461,22 @@ line_at_fault guarded line parts fault utf8 of_parts is =
 abbrev no_object_fault : JsonFault
 no_object_fault = record { kind = WrongKind; path = [] }
 
--- a value of which nothing is kept is no object
-kept_no_object : (value : Data) → simple value ≡ null → object_here value ≡ Err no_object_fault
-kept_no_object null is = refl
-kept_no_object (boolean bit) is = absurd cc
-kept_no_object (number (unsigned n)) is = absurd cc
-kept_no_object (number (negative z)) is = absurd cc
-kept_no_object (number (float x)) is = refl
-kept_no_object (string bytes) is = absurd cc
-kept_no_object (array values) is = refl
-kept_no_object (object found) is = absurd cc
+-- what is kept is no object
+kept_apart : (held : Held) (found : Members) → object found ≡ held_data held → ⊥
+kept_apart (Text bytes) found is = absurd cc
+kept_apart (Whole z) found is = absurd cc
+kept_apart (Bit bit) found is = absurd cc
+kept_apart Other found is = absurd cc
+
+-- a value of which this is kept is no object
+kept_no_object : (value : Data) (held : Held) → simple value ≡ held_data held
+    → object_here value ≡ Err no_object_fault
+kept_no_object null held is = refl
+kept_no_object (boolean bit) held is = refl
+kept_no_object (number digits) held is = refl
+kept_no_object (string bytes) held is = refl
+kept_no_object (array values) held is = refl
+kept_no_object (object found) held is = absurd (kept_apart held found is)
 
 -- a line that is read as such a value
 no_object_line : (guarded : Bool) (line : List ℕ) (value : Data) → IsUtf8 line → read line ≡ Some value
@@ -482,11 +490,27 @@ no_object_line true line value utf8 reads none =
     guarded_faulty_line line value no_object_fault utf8 reads (rw none refl)
 
 -- a line of such a value
-pub no_object : (guarded : Bool) (line : List ℕ) → IsUtf8 line → BeginsHeld line null []
+pub no_object : (guarded : Bool) (line : List ℕ) (held : Held) → IsUtf8 line → BeginsHeld line (held_data held) []
     → IsFault guarded line (Json (record { kind = WrongKind; path = [] }))
-no_object guarded line utf8 held =
-    no_object_line guarded line held.value utf8 (begins_all 1 line held.value (omega arith) held.begins)
-    (kept_no_object held.value held.keeps)
+no_object guarded line held utf8 begins =
+    no_object_line guarded line begins.value utf8 (begins_all 1 line begins.value (omega arith) begins.begins)
+    (kept_no_object begins.value held begins.keeps)
+
+-- a line that isn't read as a value is no JSON, whether it is UTF-8 or not
+nothing_read : (line : List ℕ) → read line ≡ None → json_of line ≡ Err NotJson
+unfolding json_of
+nothing_read line none = go (is_utf8 line)
+  where
+    go : (utf8 : Bool) → (if utf8 then or_not_json (read line) else Err NotJson) ≡ Err NotJson
+    go true = ap or_not_json none
+    go false = refl
+
+-- and so is at fault
+pub not_json : (guarded : Bool) (line : List ℕ) → read line ≡ None
+    → IsFault guarded line (Json (record { kind = NotJson; path = [] }))
+unfolding event_of event_of_version_1 guarded_of
+not_json false line none = (rw (nothing_read line none) refl, rw (nothing_read line none) refl)
+not_json true line none = rw (nothing_read line none) refl
 
 -- ---- faults as they are told
 

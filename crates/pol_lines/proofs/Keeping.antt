@@ -279,6 +279,15 @@ items_none text rest piece =
 pub parts_open : (text rest : List ℕ) → text ≡ 123 ∷ rest → HoldsParts text [] rest
 parts_open text rest piece = record { found = no_members; opens = opens_none 1 text rest piece; keeps = refl }
 
+-- an object of nothing
+pub parts_none : (text rest : List ℕ) → text ≡ 123 ∷ 125 ∷ rest → IsOfParts text [] rest
+unfolding print_from
+parts_none text rest piece = record {
+  found = no_members;
+  begins = record { tree = json.object json.no_members; piece = piece; numbers = tt; shallow = omega arith; means = refl };
+  keeps = refl;
+}
+
 -- what is kept once a part is put
 kept_then : (parts : List Part) (part : Part) (found : Members) (value : Data)
     → simple_members found ≡ put_parts parts no_members → simple value ≡ held_data part.held

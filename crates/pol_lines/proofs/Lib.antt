@@ -1,3 +1,4 @@
+pub mod Closing
 pub mod Cutting
 pub mod Digits
 pub mod Printed

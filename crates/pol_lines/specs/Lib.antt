@@ -1,4 +1,5 @@
 pub mod Begins
+pub mod Ends
 pub mod Faults
 pub mod Flat
 pub mod Keys

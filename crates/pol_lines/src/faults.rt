@@ -1,4 +1,4 @@
-//! The faults of flat lines.
+//! The faults of flat lines, and of lines that are no JSON by their ends.
 ghost use Rattle.std.specs.Prelude.{◌≡◌, [], Err, IfSome, IsTrue};
 ghost use Rattle.std.specs.Str.{IsUtf8};
 ghost use Rattle.event_json.specs.Guarded.{guarded_of};
@@ -9,7 +9,8 @@ ghost use Rattle.pol_lines.specs.Faults.{IsFault};
 ghost use Rattle.pol_lines.specs.Spots.{fault_at};
 
 use crate::key::text_of;
-use crate::parts::{read_other, read_parts};
+use crate::no_json::is_no_json;
+use crate::parts::{read_held, read_parts};
 use crate::pieces::is_text;
 use crate::spots::{Spot, judge};
 use arrayvec::ArrayVec;
@@ -61,7 +62,7 @@ fn object_spot(line: &[u8], guarded: bool) -> Option<Spot>
 fn other_spot(line: &[u8], guarded: bool) -> Option<Spot>
     ensures { IfSome result (λ spot. IsFault guarded line.now (Json (fault_at spot))) }
 {
-    let rest = read_other(line)?;
+    let (_held, rest) = read_held(line)?;
     if !is_whole(rest, line) {
         return None;
     }
@@ -71,9 +72,16 @@ fn other_spot(line: &[u8], guarded: bool) -> Option<Spot>
     })
 }
 
+/// The spot at which a line is at fault, under a policy where `guarded` says so.
 fn line_spot(line: &[u8], guarded: bool) -> Option<Spot>
     ensures { IfSome result (λ spot. IsFault guarded line.now (Json (fault_at spot))) }
 {
+    if is_no_json(line) {
+        return Some(Spot {
+            kind: FaultKind::NotJson,
+            key: None,
+        });
+    }
     match line {
         [b'{', ..] => object_spot(line, guarded),
         _ => other_spot(line, guarded),
@@ -91,7 +99,8 @@ fn line_fault(alloc: Global, line: &[u8], guarded: bool) -> Option<LineFault>
 }
 
 /// The fault of a compact line that says no event, in a journal of either version; None for some such lines, and for
-/// each that says one. It is read without a tree: a flat object, in which lists and null may occur too, or a list.
+/// each that says one. It is read without a tree: a flat object, in which lists and null may occur too, a
+/// list, a text, a number, a truth value, null, and what is no JSON by its first or last byte.
 #[inline(never)]
 pub fn read_fault(alloc: Global, line: &[u8]) -> Option<LineFault>
     ensures journal { IfSome result (λ fault. event_of line.now ≡ Err fault) }

@@ -11,6 +11,12 @@ use event_json::{LineFault, LineRefusal, read_event};
 use pol_events::Event;
 use std::alloc::Global;
 
+/// Whether the line ends with a brace; one that was cut off doesn't.
+#[inline(always)]
+fn is_closed(line: &[u8]) -> bool {
+    matches!(line, [.., b'}'])
+}
+
 /// The lines of a journal: each says an event.
 pub struct JournalLines;
 
@@ -31,6 +37,9 @@ impl LineForm for JournalLines {
     #[inline(never)]
     #[tactic(auto, using(event_json::proofs::Orderly::line_orderly))]
     fn read_quickly(alloc: Global, line: &[u8]) -> Option<Event> {
+        if !is_closed(line) {
+            return None;
+        }
         let mut members = ArrayVec::new();
         let cut = begin_object(line)?;
         let cut = read_flats(cut, &mut members);

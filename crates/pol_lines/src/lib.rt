@@ -29,6 +29,7 @@ mod kinds;
 mod leaf;
 mod lists;
 mod modules;
+mod no_json;
 mod nodes;
 mod objects;
 mod params;

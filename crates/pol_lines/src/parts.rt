@@ -147,7 +147,7 @@ fn read_fraction(text: &[u8]) -> Option<&[u8]>
 
 /// What follows the value at the front of a text of which nothing is kept.
 #[tactic(auto, using(crate::proofs::Keeping::begins_null))]
-pub fn read_other(text: &[u8]) -> Option<&[u8]>
+fn read_other(text: &[u8]) -> Option<&[u8]>
     ensures { IfSome result (λ rest. BeginsHeld text.now null rest.now) }
 {
     match text {
@@ -157,14 +157,14 @@ pub fn read_other(text: &[u8]) -> Option<&[u8]>
     }
 }
 
-/// Whether a value may end here.
+/// Whether a value may end in front of this text.
 fn is_end(text: &[u8]) -> bool {
-    matches!(text, [b',' | b'}', ..])
+    matches!(text, [] | [b',' | b'}', ..])
 }
 
 /// What is kept of the value at the front of a text, with what follows it.
 #[tactic(auto, using(crate::proofs::Keeping::begins_flat))]
-fn read_held(text: &[u8]) -> Option<(Held, &[u8])>
+pub fn read_held(text: &[u8]) -> Option<(Held, &[u8])>
     ensures { IfSome result (λ read. BeginsHeld text.now (held_data read.0) read.1.now) }
 {
     if let Some((leaf, rest)) = read_leaf(text) {
@@ -186,12 +186,15 @@ fn read_part(text: &[u8]) -> Option<(Part, &[u8])>
 }
 
 /// Reads the parts of the object at the front of a text into a list that is empty; it answers what follows the object,
-/// and None for an object of none or of more than twelve members.
+/// and None for an object of more than twelve members.
 pub fn read_parts<'a>(text: &'a [u8], parts: &mut ArrayVec<Part<'a>, 12>) -> Option<&'a [u8]>
     requires { parts.old.items ≡ [] }
     ensures { IfSome result (λ rest. IsOfParts text.now parts.new.items rest.now) }
 {
     let mut rest = eat(text, b"{")?;
+    if let Some(after) = eat(rest, b"}") {
+        return Some(after);
+    }
     while !parts.is_full() {
         let (part, after) = read_part(rest)?;
         parts.push(part);

@@ -4,5 +4,5 @@ use Rattle.pol_lines.proofs.faults.other_spot.Goals as goal
 
 pub returns : goal.returns
 returns c =
-    no_object c.args.guarded c.args.line.now (c.if-not-is_whole.ensures.text refl)
-    (rw (c.if-not-is_whole.ensures.ended refl) at c.in_ok-rest.ensures)
+    no_object c.args.guarded c.args.line.now c.in_ok-_held._held (c.if-not-is_whole.ensures.text refl)
+    (rw (c.if-not-is_whole.ensures.ended refl) at c.in_ok-_held.ensures)

@@ -1,8 +1,13 @@
-use Rattle.std.proofs.Common.{◌≡◌, ◌-◌, ◌∷◌, length, take, drop, subst, arith}
+use Rattle.std.proofs.Common.{◌≡◌, ◌-◌, ◌∷◌, length, take, drop, ap, ◌∙◌, subst, arith}
 use Rattle.std.proofs.lemmas.Grind.{common_steps}
 use Rattle.pol_lines.specs.Parts.{BeginsPart}
-use Rattle.pol_lines.proofs.Keeping.{parts_close, parts_more, parts_open}
+use Rattle.pol_lines.proofs.Keeping.{parts_close, parts_more, parts_none, parts_open}
 use Rattle.pol_lines.proofs.parts.read_parts.Goals as goal
+
+pub returns-in-Some : goal.returns-in-Some
+returns-in-Some c =
+    rw c.requires (parts_none c.args.text.now c.in-Some.after.now
+    (c.in_ok-rest.ensures ∙ ap (λ s. 123 ∷ s) c.in-Some.ensures))
 
 pub loop-rest-init : goal.loop-rest-init
 loop-rest-init c = rw c.requires (parts_open c.args.text.now c.in_ok-rest.rest.now c.in_ok-rest.ensures)
