@@ -22,10 +22,9 @@ use Rattle.chart_cursor.specs.declared.running.FirstRunning.{FirstRunning}
 use Rattle.chart_cursor.specs.declared.scanning.FirstReady.{FirstReady}
 use Rattle.chart_cursor.specs.Broken.{broken_node, first_broken_node}
 use Rattle.chart_cursor.specs.Holding.{flag_at, is_unasked, hold_node, first_hold_node, unhold_node, first_unhold_node}
-use Rattle.chart_cursor.specs.declared.both.Both.{Both}
-use Rattle.chart_cursor.specs.Looks.{look_both, look_ready, look_running, look_broken, look_hold, look_unhold}
+use Rattle.chart_cursor.specs.Looks.{look_ready, look_going, look_running, look_hold, look_unhold}
 use Rattle.chart_cursor.specs.Running.{is_wanted, running_node, first_running}
-use Rattle.chart_cursor.specs.declared.breaking.FirstBroken.{FirstBroken}
+use Rattle.chart_cursor.specs.declared.going.Going.{Going}
 use Rattle.chart_cursor.specs.declared.holding.FirstHold.{FirstHold}
 use Rattle.chart_cursor.specs.declared.holding.FirstUnhold.{FirstUnhold}
 
@@ -118,13 +117,6 @@ turn_more after old new each others number marks looked =
 
 -- ---- what is found at the end of a walk
 
--- two find together what each finds alone
-pub both_found :
-    {V W : Type 0} (one : V → OpenNode → V) (other : W → OpenNode → W) (both : Both V W) (each : List OpenNode)
-    → fold (look_both one other) both each ≡ record { one = fold one both.one each; other = fold other both.other each }
-both_found one other both [] = refl
-both_found one other both (spot ∷ others) = both_found one other (look_both one other both spot) others
-
 -- the first of three answers
 pub first_next_assoc : (one other third : CursorNext) → first_next (first_next one other) third
     ≡ first_next one (first_next other third)
@@ -172,14 +164,24 @@ running_found running (spot ∷ others) =
 
 -- what broke before a walk, and then the first one that broke of the steps that it looks at
 pub broken_found :
-    {S : Type 0} (sights : S → Sights) (broken : FirstBroken S) (each : List OpenNode)
-    → (fold (look_broken sights) broken each).found ≡ option_or broken.found
-    (first_broken_node (sights broken.seen.now) each)
-broken_found sights broken [] = sym (or_none broken.found)
-broken_found sights broken (spot ∷ others) =
-    broken_found sights (look_broken sights broken spot) others
-    ∙ or_assoc broken.found (broken_node (sights broken.seen.now) spot.node (phase_of spot.progress))
-    (first_broken_node (sights broken.seen.now) others)
+    {S : Type 0} (sights : S → Sights) (going : Going S) (each : List OpenNode)
+    → (fold (look_going sights) going each).found ≡ option_or going.found
+    (first_broken_node (sights going.seen.now) each)
+broken_found sights going [] = sym (or_none going.found)
+broken_found sights going (spot ∷ others) =
+    broken_found sights (look_going sights going spot) others
+    ∙ or_assoc going.found (broken_node (sights going.seen.now) spot.node (phase_of spot.progress))
+    (first_broken_node (sights going.seen.now) others)
+
+-- and what came first before that walk, and then what comes first of the nodes that it looks at
+pub next_found :
+    {S : Type 0} (sights : S → Sights) (going : Going S) (each : List OpenNode)
+    → (fold (look_going sights) going each).next ≡ first_next going.next (first_among (sights going.seen.now) each)
+next_found sights going [] = sym (first_next_whole going.next)
+next_found sights going (spot ∷ others) =
+    next_found sights (look_going sights going spot) others
+    ∙ first_next_assoc going.next (open_node_ready (sights going.seen.now) spot)
+    (first_among (sights going.seen.now) others)
 
 -- what was to be held before a walk, and then the first to be held of the steps that it looks at
 pub hold_found :

@@ -9,10 +9,9 @@ use Rattle.chart_cursor.specs.declared.scanning.FirstReady.{FirstReady}
 use Rattle.chart_cursor.specs.Broken.{broken_node}
 use Rattle.chart_cursor.specs.Holding.{flag_at, is_unasked, hold_node, unhold_node}
 use Rattle.chart_cursor.specs.Running.{is_wanted, running_node}
-use Rattle.chart_cursor.specs.declared.both.Both.{Both}
 use Rattle.chart_cursor.specs.Listing.{running_at_node, waiting_node}
 use Rattle.chart_cursor.specs.Sought.{met}
-use Rattle.chart_cursor.specs.declared.breaking.FirstBroken.{FirstBroken}
+use Rattle.chart_cursor.specs.declared.going.Going.{Going}
 use Rattle.chart_cursor.specs.declared.holding.FirstHold.{FirstHold}
 use Rattle.chart_cursor.specs.declared.holding.FirstUnhold.{FirstUnhold}
 
@@ -21,9 +20,14 @@ abbrev pub look_ready : {S : Type 0} → (S → Sights) → FirstReady S → Ope
 look_ready sights ready spot =
     record { seen = ready.seen; next = first_next ready.next (open_node_ready (sights ready.seen.now) spot) }
 
--- what each of two visitors is after one node more
-abbrev pub look_both : {V W : Type 0} → (V → OpenNode → V) → (W → OpenNode → W) → Both V W → OpenNode → Both V W
-look_both one other both spot = record { one = one both.one spot; other = other both.other spot }
+-- the entry Broke of the first running step whose service is stopped or aborted; and what comes next
+abbrev pub look_going : {S : Type 0} → (S → Sights) → Going S → OpenNode → Going S
+look_going sights going spot =
+    record {
+      seen = going.seen;
+      found = option_or going.found (broken_node (sights going.seen.now) spot.node (phase_of spot.progress));
+      next = first_next going.next (open_node_ready (sights going.seen.now) spot);
+    }
 
 -- the first wanted step that runs
 abbrev pub look_running : FirstRunning → OpenNode → FirstRunning
@@ -33,14 +37,6 @@ look_running running spot =
       role = running.role;
       found = option_or running.found
           (running_node (is_wanted running.from running.role) spot.number spot.node (phase_of spot.progress));
-    }
-
--- the entry Broke of the first running step whose service is stopped or aborted
-abbrev pub look_broken : {S : Type 0} → (S → Sights) → FirstBroken S → OpenNode → FirstBroken S
-look_broken sights broken spot =
-    record {
-      seen = broken.seen;
-      found = option_or broken.found (broken_node (sights broken.seen.now) spot.node (phase_of spot.progress));
     }
 
 -- the entry Hold of the first running step that wasn't asked yet and may be sent Hold

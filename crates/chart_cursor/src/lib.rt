@@ -16,7 +16,6 @@
 //! Tried in `chart_examples`.
 #![tactic(auto)]
 
-mod both;
 mod breaking;
 mod cursor;
 mod going;
